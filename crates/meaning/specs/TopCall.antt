@@ -1,0 +1,264 @@
+-- What the top call promises of its status, over what the shelf holds and counts, what the two sinks have, and the diagrams.
+use Rattle.std.specs.Prelude.{◌≡◌, ℕ, ◌<◌, ◌≤◌, ◌+◌, ◌⊎◌, ⊤, List, [], ◌∷◌, ◌++◌, length, take, Bool, true, false, Option, Some, None}
+use Rattle.std.specs.List.{slice_get}
+use Rattle.meaning.specs.Counts.{Rose, RoseBy, NoFewer, appended}
+use Rattle.meaning.specs.Features.{feature_names}
+use Rattle.meaning.specs.Documents.{Document}
+use Rattle.meaning.specs.CaseFiles.{CaseDocument}
+use Rattle.meaning.specs.CaseReading as reading
+use Rattle.meaning.specs.CaseReading.{CaseFault, CaseReading, read_case}
+use Rattle.meaning.specs.Derivation.{Bundle, bundle_of}
+use Rattle.meaning.specs.Bounds.{IsWork, line_asks, asks_of_build, asks_of_report, asks_of_rules, asks_of_audit, nodes_of_functions}
+use Rattle.meaning.specs.Words.{Task, Build, TestRules, Audit, Report, Workload, Invocation, File, files_of, uses_diagrams}
+use Rattle.meaning.specs.Statuses.{Status, Done, BadWords, NodeLimit, TooLong, ReadFault, WriteFault, NoMemory, RulesBroken, status_line}
+use Rattle.meaning.specs.Answers.{Answer, Prints, Refuses, Stage, BundleReading, Good, bundle_in, IsAnswer, generated_bundle}
+
+-- ---- what a sink was told
+
+-- a sink grew by these bytes, or by less, a front of them, only where its faults rose
+pub record Says (old new : Option (List ℕ)) (faults faults_new : ℕ) (bytes : List ℕ) : Type 0 where
+  pub count : ℕ
+  pub grew : new ≡ appended old (take count bytes)
+  pub whole : (length bytes ≤ count) ⊎ Rose faults faults_new
+
+-- ---- the outside, at the start of the call and at its end
+
+pub record Outside : Type 0 where
+  pub holds : List ℕ → Option (List ℕ)
+  pub faults : List ℕ → ℕ
+  pub next : ℕ
+  pub given : List ℕ → ℕ
+  pub out : Option (List ℕ)
+  pub out_faults : ℕ
+  pub err : Option (List ℕ)
+  pub err_faults : ℕ
+
+pub record Diagrams : Type 0 where
+  pub is_open : Bool
+  pub limit : ℕ
+  pub features : ℕ
+  pub asked : ℕ
+  pub refused : ℕ
+  pub taken : ℕ
+
+-- ---- the files
+
+-- a file is within its limit, where the shelf tells
+abbrev pub IsWithin : Outside → File → Type 0
+IsWithin o f = (bytes : List ℕ) → o.holds f.name ≡ Some bytes → length bytes ≤ f.most
+
+abbrev pub AllWithin : Outside → List File → Type 0
+AllWithin o files = (k : ℕ) (f : File) → slice_get files k ≡ Some f → IsWithin o f
+
+-- the files before file k are within their limits
+abbrev pub WithinBefore : Outside → List File → ℕ → Type 0
+WithinBefore o files k = (j : ℕ) (f : File) → j < k → slice_get files j ≡ Some f → IsWithin o f
+
+-- these are the bytes of the files, in order, where the shelf tells all of them
+abbrev pub ToldBy : Outside → List File → List (List ℕ) → Type 0
+ToldBy o [] [] = ⊤
+ToldBy o (f ∷ fs) (bytes ∷ more) = (o.holds f.name ≡ Some bytes) × ToldBy o fs more
+ToldBy o _ _ = ⊥
+
+-- ---- what a status promises: one record for each way to end
+
+-- the words have no reading
+pub record WordsRefused (stage : Stage) (words : List (List ℕ)) : Type 0 where
+  pub unread : stage.reads words ≡ None
+
+-- file k was not read: its own count of faults rose, and the files before it were read
+pub record NotRead (stage : Stage) (words : List (List ℕ)) (before after : Outside) (k : ℕ) : Type 0 where
+  pub invocation : Invocation
+  pub reads : stage.reads words ≡ Some invocation
+  pub file : File
+  pub is_file : slice_get (files_of invocation.task) k ≡ Some file
+  pub earlier : WithinBefore before (files_of invocation.task) k
+  pub cause : Rose (before.faults file.name) (after.faults file.name)
+
+-- one byte more than the limit was taken of file k, each place once, and the files before it were read
+pub record IsTooLong (stage : Stage) (words : List (List ℕ)) (before after : Outside) (k : ℕ) : Type 0 where
+  pub invocation : Invocation
+  pub reads : stage.reads words ≡ Some invocation
+  pub file : File
+  pub is_file : slice_get (files_of invocation.task) k ≡ Some file
+  pub earlier : WithinBefore before (files_of invocation.task) k
+  pub place : after.next ≡ file.most + 1
+  pub taken : RoseBy (before.given file.name) (after.given file.name) (file.most + 1)
+  pub longer : (bytes : List ℕ) → before.holds file.name ≡ Some bytes → file.most < length bytes
+
+-- the files are within their limits, and where the shelf tells them this is the task's answer to them
+pub record Answered (stage : Stage) (words : List (List ℕ)) (before : Outside) (answer : Answer) : Type 0 where
+  pub invocation : Invocation
+  pub reads : stage.reads words ≡ Some invocation
+  pub within : AllWithin before (files_of invocation.task)
+  pub told : (files : List (List ℕ)) → ToldBy before (files_of invocation.task) files → IsAnswer stage invocation.task files answer
+
+-- the whole answer was printed
+pub record IsDone (stage : Stage) (words : List (List ℕ)) (before after : Outside) : Type 0 where
+  pub bytes : List ℕ
+  pub answer : Answered stage words before (Prints bytes)
+  pub printed : after.out ≡ appended before.out bytes
+
+-- a front of the answer was printed, and the output failed
+pub record NotWritten (stage : Stage) (words : List (List ℕ)) (before after : Outside) : Type 0 where
+  pub bytes : List ℕ
+  pub answer : Answered stage words before (Prints bytes)
+  pub count : ℕ
+  pub printed : after.out ≡ appended before.out (take count bytes)
+  pub cause : Rose before.out_faults after.out_faults
+
+-- the task's answer is this refusal, with these lines
+pub record IsRefused (stage : Stage) (words : List (List ℕ)) (before : Outside) (status : Status) (lines : List ℕ) : Type 0 where
+  pub answer : Answered stage words before (Refuses status lines)
+
+-- ---- the node limit
+
+-- what the diagrams are opened for: the number of features, and how much may be asked of them
+pub record Asks : Type 0 where
+  pub features : ℕ
+  pub asks : ℕ
+
+-- building a bundle document may ask so much
+pub record BuildAsks (d : Document) (b : Bundle) (a : Asks) : Type 0 where
+  pub features : a.features ≡ length (feature_names b.line)
+  pub work : ℕ
+  pub of_bundle : IsWork b work
+  pub is : a.asks ≡ asks_of_build work (line_asks (feature_names b.line) d)
+
+abbrev pub CaseAsks : (CaseDocument → ℕ) → CaseDocument → Asks → Type 0
+CaseAsks count k a = (a.features ≡ length k.features) × (a.asks ≡ count k)
+
+pub record AuditAsks (d : Document) (b : Bundle) (k : CaseDocument) (a : Asks) : Type 0 where
+  pub features : a.features ≡ length (feature_names b.line)
+  pub is : a.asks ≡ asks_of_audit b.model k (line_asks (feature_names b.line) d)
+
+abbrev pub OfBundle : BundleReading → (Document → Bundle → Type 0) → Type 0
+OfBundle (Good d b) next = next d b
+OfBundle _ next = ⊥
+
+abbrev pub OfCase : List CaseFault → CaseReading → (CaseDocument → Type 0) → Type 0
+OfCase [] (reading.Is k) next = next k
+OfCase fs _ next = ⊥
+
+abbrev pub OfDocument : Option Document → (Document → Bundle → Type 0) → Type 0
+OfDocument None next = ⊥
+OfDocument (Some d) next = next d (bundle_of d)
+
+-- the files have no fault that comes before the diagrams are opened, and a task over them may ask so much
+abbrev pub MayAsk : Stage → Task → List (List ℕ) → Asks → Type 0
+MayAsk s (Build name) (bytes ∷ []) a = OfBundle (bundle_in s name bytes) (λ d b. BuildAsks d b a)
+MayAsk s (TestRules case) (bytes ∷ []) a = OfCase (s.case_faults bytes) (read_case bytes) (λ k. CaseAsks asks_of_rules k a)
+MayAsk s (Report case) (bytes ∷ []) a = OfCase (s.case_faults bytes) (read_case bytes) (λ k. CaseAsks asks_of_report k a)
+MayAsk s (Audit bundle case) (bytes ∷ others ∷ []) a =
+    OfBundle (bundle_in s bundle bytes) (λ d b. OfCase (s.case_faults others) (read_case others) (λ k. AuditAsks d b k a))
+MayAsk s (Workload number size) [] a = OfDocument (generated_bundle number size) (λ d b. BuildAsks d b a)
+MayAsk s t _ a = ⊥
+
+-- a limit below what is enough for the task was reached, in the diagrams that were opened with it
+pub record LimitReached (stage : Stage) (words : List (List ℕ)) (before : Outside) (old new : Diagrams) (used : ℕ) : Type 0 where
+  pub invocation : Invocation
+  pub reads : stage.reads words ≡ Some invocation
+  pub within : AllWithin before (files_of invocation.task)
+  pub with_diagrams : uses_diagrams invocation.task ≡ true
+  pub used_all : used ≡ invocation.node_limit
+  pub cause : Rose old.refused new.refused
+  pub opened : new.is_open ≡ true
+  pub with_limit : new.limit ≡ invocation.node_limit
+  pub below_enough : (files : List (List ℕ)) → ToldBy before (files_of invocation.task) files
+      → (a : Asks) × MayAsk stage invocation.task files a
+      × ((new.features ≡ a.features) × (invocation.node_limit < nodes_of_functions a.features a.asks))
+
+-- how much was asked of the diagrams, at whatever status, where the files have no fault but that no world is valid
+abbrev pub FewAsked : Stage → List (List ℕ) → Outside → Diagrams → Type 0
+FewAsked stage words before new =
+    (invocation : Invocation) (files : List (List ℕ)) (a : Asks) → stage.reads words ≡ Some invocation
+    → ToldBy before (files_of invocation.task) files → MayAsk stage invocation.task files a → new.asked + new.taken ≤ a.asks
+
+-- tasks without diagrams leave them shut
+abbrev pub LeftShut : Stage → List (List ℕ) → Diagrams → Type 0
+LeftShut stage words new =
+    (invocation : Invocation) → stage.reads words ≡ Some invocation → uses_diagrams invocation.task ≡ false → new.is_open ≡ false
+
+-- open diagrams have the limit of the words, and the features of the line or the case
+abbrev pub OpenedAs : Stage → List (List ℕ) → Outside → Diagrams → Type 0
+OpenedAs stage words before new =
+    (invocation : Invocation) (files : List (List ℕ)) (a : Asks) → stage.reads words ≡ Some invocation
+    → ToldBy before (files_of invocation.task) files → MayAsk stage invocation.task files a → new.is_open ≡ true
+    → (new.limit ≡ invocation.node_limit) × (new.features ≡ a.features)
+
+-- ---- the whole
+
+-- the cause of a status, where `Limit` says what a reached node limit promises; want of memory has no cause
+abbrev pub Cause : Stage → List (List ℕ) → Outside → Outside → (Limit : ℕ → Type 0) → (lines : List ℕ) → Status → Type 0
+Cause stage words before after Limit lines Done = IsDone stage words before after
+Cause stage words before after Limit lines BadWords = WordsRefused stage words
+Cause stage words before after Limit lines (NodeLimit used) = Limit used
+Cause stage words before after Limit lines (TooLong k) = IsTooLong stage words before after k
+Cause stage words before after Limit lines (ReadFault k) = NotRead stage words before after k
+Cause stage words before after Limit lines WriteFault = NotWritten stage words before after
+Cause stage words before after Limit lines NoMemory = ⊤
+Cause stage words before after Limit lines s = IsRefused stage words before s lines
+
+-- the output is as it was under every status but these two, whose causes say what it has
+abbrev pub OutKept : Outside → Outside → Status → Type 0
+OutKept before after Done = ⊤
+OutKept before after WriteFault = ⊤
+OutKept before after s = after.out ≡ before.out
+
+-- what a status says: its line, and under broken rules more lines, which the cause gives
+abbrev pub LinesOf : Status → List ℕ → Type 0
+LinesOf (RulesBroken count) lines = (more : List ℕ) × (lines ≡ status_line (RulesBroken count) ++ more)
+LinesOf s lines = lines ≡ status_line s
+
+-- the promise of the top call, at every status
+pub record Promise (stage : Stage) (words : List (List ℕ)) (before after : Outside) (Limit : ℕ → Type 0) (status : Status) : Type 0 where
+  pub lines : List ℕ
+  pub cause : Cause stage words before after Limit lines status
+  pub out : OutKept before after status
+  pub said : LinesOf status lines
+  pub err : Says before.err after.err before.err_faults after.err_faults lines
+
+-- without diagrams no node limit is reached
+abbrev pub NoLimit : ℕ → Type 0
+NoLimit used = ⊥
+
+abbrev pub PlainPromise : Stage → List (List ℕ) → Outside → Outside → Status → Type 0
+PlainPromise stage words before after status = Promise stage words before after NoLimit status
+
+-- with diagrams: also how much was asked of them
+pub record PromiseWithDiagrams (stage : Stage) (words : List (List ℕ)) (before after : Outside) (old new : Diagrams) (status : Status) : Type 0 where
+  pub promise : Promise stage words before after (LimitReached stage words before old new) status
+  pub asked : FewAsked stage words before new
+  pub opened : OpenedAs stage words before new
+  pub shut : LeftShut stage words new
+
+-- ---- what follows: with every file told and within its limit, and no count that rises, only want of memory stands beside the answer
+
+pub record AllGood (before after : Outside) (files : List File) : Type 0 where
+  pub told : (k : ℕ) (f : File) → slice_get files k ≡ Some f → (bytes : List ℕ) × (before.holds f.name ≡ Some bytes) × (length bytes ≤ f.most)
+  pub read : (k : ℕ) (f : File) → slice_get files k ≡ Some f → Rose (before.faults f.name) (after.faults f.name) → ⊥
+  pub printed : Rose before.out_faults after.out_faults → ⊥
+
+-- an answer ends in a status
+pub data EndsIn : Answer → Status → Type 0 where
+  prints : {bytes : List ℕ} → EndsIn (Prints bytes) Done
+  refuses : {s : Status} {lines : List ℕ} → EndsIn (Refuses s lines) s
+
+pub record AnswersAs (stage : Stage) (task : Task) (files : List (List ℕ)) (status : Status) : Type 0 where
+  pub answer : Answer
+  pub is : IsAnswer stage task files answer
+  pub ends : EndsIn answer status
+
+abbrev pub CompletesBut : (Limit : ℕ → Type 0) → Type 0
+CompletesBut Limit = (stage : Stage) (words : List (List ℕ)) (before after : Outside) (status : Status) (i : Invocation) (files : List (List ℕ))
+    → Promise stage words before after Limit status → stage.reads words ≡ Some i
+    → AllGood before after (files_of i.task) → ToldBy before (files_of i.task) files
+    → AnswersAs stage i.task files status ⊎ ((status ≡ NoMemory) ⊎ ((used : ℕ) × (status ≡ NodeLimit used) × Limit used))
+
+-- what every call leaves or only raises, whatever its status
+pub record Kept (before after : Outside) : Type 0 where
+  pub same_files : after.holds ≡ before.holds
+  pub no_fewer_faults : NoFewer before.faults after.faults
+  pub no_less_given : NoFewer before.given after.given
+  pub no_fewer_out_faults : before.out_faults ≤ after.out_faults
+  pub no_fewer_err_faults : before.err_faults ≤ after.err_faults

@@ -1,0 +1,10 @@
+pub mod OpenPoints
+pub mod WorkedAnswers
+pub mod WorkedAudits
+pub mod WorkedBounds
+pub mod WorkedBundles
+pub mod WorkedCases
+pub mod WorkedExpressions
+pub mod WorkedReports
+pub mod WorkedThin
+pub mod WorkedTopCall

@@ -1,0 +1,280 @@
+-- Replaying runs, and auditing, computed by the check.
+use Rattle.std.specs.Prelude.{◌≡◌, ℕ, List, [], ◌∷◌, Bool, true, false, Option, Some, None, refl, codes, option_map}
+use Rattle.meaning.specs.Documents.{Json, document_of}
+use Rattle.meaning.specs.CaseReading.{CaseReading, Broken, read_case}
+use Rattle.meaning.specs.CaseReading as reading
+use Rattle.meaning.specs.Derivation.{bundle_of, direct, Text}
+use Rattle.meaning.specs.Evidence.{shown, text_of_evidence}
+use Rattle.meaning.specs.Replay.{RunFault, RunReading, Refused, Is, NoTable, WrongForm, NoSystem, UnknownStart, NoTransition, run_of, Replayed, NotInitial, NotJoined, NotPresent, Ends, replay_answer}
+use Rattle.meaning.specs.Audits.{Place, SameFeatures, ValidExactly, SystemsAsModelled, InitialReached, ReachedClosed, ChecksRead, SupportedSafe, RefutedViolates, RefutedReplays, broken_at, first_broken_among}
+use Rattle.meaning.specs.Worlds.{worlds}
+use Rattle.meaning_rows.proofs.WorkedCases.{meaning_on_literals}
+
+system_bundle : List ℕ
+system_bundle =
+    codes "{\"bundle\":1,\"title\":\"Row\",\"line\":{\"features\":[{\"name\":\"R\"},{\"name\":\"A\",\"parent\":\"R\"},{\"name\":\"B\",\"parent\":\"R\"}]},\"model\":{\"types\":[{\"name\":\"N\",\"system\":true}],\"labels\":[\"bad\"],\"elements\":[{\"name\":\"c\",\"type\":\"N\"}],\"systems\":[{\"element\":\"c\",\"states\":[{\"name\":\"s0\",\"initial\":true},{\"name\":\"s1\"},{\"name\":\"s2\"},{\"name\":\"bad\",\"labels\":[\"bad\"]}],\"transitions\":[{\"from\":\"s0\",\"to\":\"s1\",\"action\":\"go\"},{\"from\":\"s1\",\"to\":\"s2\",\"action\":\"go\"},{\"from\":\"s1\",\"to\":\"bad\",\"action\":\"slip\",\"when\":\"!A\"}]}]},\"templates\":[{\"name\":\"Top\",\"nodes\":[{\"id\":\"g\",\"kind\":\"goal\",\"text\":\"All\"},{\"id\":\"s\",\"kind\":\"strategy\",\"under\":\"g\",\"text\":\"Over {#}\",\"each\":\"n: N\"},{\"id\":\"c\",\"kind\":\"goal\",\"under\":\"s\",\"text\":\"{n.name} is safe\"},{\"id\":\"e\",\"kind\":\"solution\",\"under\":\"c\",\"text\":\"Check\",\"check\":{\"never\":\"bad\",\"of\":\"n\"}}]}]}"
+
+two_ways_bundle : List ℕ
+two_ways_bundle =
+    codes "{\"bundle\":1,\"title\":\"Row\",\"line\":{\"features\":[{\"name\":\"R\"},{\"name\":\"A\",\"parent\":\"R\"},{\"name\":\"B\",\"parent\":\"R\"}]},\"model\":{\"types\":[{\"name\":\"N\",\"system\":true}],\"labels\":[\"bad\"],\"elements\":[{\"name\":\"c\",\"type\":\"N\"}],\"systems\":[{\"element\":\"c\",\"states\":[{\"name\":\"s0\",\"initial\":true},{\"name\":\"a\"},{\"name\":\"b\"},{\"name\":\"bad\",\"labels\":[\"bad\"]}],\"transitions\":[{\"from\":\"s0\",\"to\":\"b\",\"action\":\"x\"},{\"from\":\"s0\",\"to\":\"a\",\"action\":\"y\"},{\"from\":\"a\",\"to\":\"bad\",\"action\":\"z\"},{\"from\":\"b\",\"to\":\"bad\",\"action\":\"w\"}]}]},\"templates\":[{\"name\":\"Top\",\"nodes\":[{\"id\":\"g\",\"kind\":\"goal\",\"text\":\"All\"},{\"id\":\"s\",\"kind\":\"strategy\",\"under\":\"g\",\"text\":\"Over {#}\",\"each\":\"n: N\"},{\"id\":\"c\",\"kind\":\"goal\",\"under\":\"s\",\"text\":\"{n.name} is safe\"},{\"id\":\"e\",\"kind\":\"solution\",\"under\":\"c\",\"text\":\"Check\",\"check\":{\"never\":\"bad\",\"of\":\"n\"}}]}]}"
+
+bad_start_bundle : List ℕ
+bad_start_bundle =
+    codes "{\"bundle\":1,\"title\":\"Row\",\"line\":{\"features\":[{\"name\":\"R\"},{\"name\":\"A\",\"parent\":\"R\"},{\"name\":\"B\",\"parent\":\"R\"}]},\"model\":{\"types\":[{\"name\":\"N\",\"system\":true}],\"labels\":[\"bad\"],\"elements\":[{\"name\":\"c\",\"type\":\"N\"}],\"systems\":[{\"element\":\"c\",\"states\":[{\"name\":\"s0\",\"initial\":true,\"labels\":[\"bad\"]},{\"name\":\"a\"},{\"name\":\"b\"},{\"name\":\"bad\",\"labels\":[\"bad\"]}],\"transitions\":[{\"from\":\"s0\",\"to\":\"b\",\"action\":\"x\"},{\"from\":\"s0\",\"to\":\"a\",\"action\":\"y\"},{\"from\":\"a\",\"to\":\"bad\",\"action\":\"z\"},{\"from\":\"b\",\"to\":\"bad\",\"action\":\"w\"}]}]},\"templates\":[{\"name\":\"Top\",\"nodes\":[{\"id\":\"g\",\"kind\":\"goal\",\"text\":\"All\"},{\"id\":\"s\",\"kind\":\"strategy\",\"under\":\"g\",\"text\":\"Over {#}\",\"each\":\"n: N\"},{\"id\":\"c\",\"kind\":\"goal\",\"under\":\"s\",\"text\":\"{n.name} is safe\"},{\"id\":\"e\",\"kind\":\"solution\",\"under\":\"c\",\"text\":\"Check\",\"check\":{\"never\":\"bad\",\"of\":\"n\"}}]}]}"
+
+deadlock_bundle : List ℕ
+deadlock_bundle =
+    codes "{\"bundle\":1,\"title\":\"Row\",\"line\":{\"features\":[{\"name\":\"R\"},{\"name\":\"A\",\"parent\":\"R\"},{\"name\":\"B\",\"parent\":\"R\"}]},\"model\":{\"types\":[{\"name\":\"N\",\"system\":true}],\"labels\":[\"bad\"],\"elements\":[{\"name\":\"c\",\"type\":\"N\"}],\"systems\":[{\"element\":\"c\",\"states\":[{\"name\":\"s0\",\"initial\":true}],\"transitions\":[{\"from\":\"s0\",\"to\":\"s0\",\"action\":\"p\",\"when\":\"A\"},{\"from\":\"s0\",\"to\":\"s0\",\"action\":\"q\",\"when\":\"B\"}]}]},\"templates\":[{\"name\":\"Top\",\"nodes\":[{\"id\":\"g\",\"kind\":\"goal\",\"text\":\"All\"},{\"id\":\"s\",\"kind\":\"strategy\",\"under\":\"g\",\"text\":\"Over {#}\",\"each\":\"n: N\"},{\"id\":\"c\",\"kind\":\"goal\",\"under\":\"s\",\"text\":\"{n.name} is safe\"},{\"id\":\"e\",\"kind\":\"solution\",\"under\":\"c\",\"text\":\"Check\",\"check\":{\"deadlock\":\"n\"}}]}]}"
+
+system_case : List ℕ
+system_case =
+    codes "{\"case\":1,\"features\":[\"R\",\"A\",\"B\"],\"nodes\":[{\"key\":\"0\",\"kind\":\"goal\",\"text\":[\"All\"],\"when\":2},{\"branches\":[2],\"key\":\"0/1\",\"kind\":\"strategy\",\"text\":[\"Over \",0],\"when\":2},{\"key\":\"0/1/0:2\",\"kind\":\"goal\",\"text\":[\"c is safe\"],\"when\":2},{\"finding\":{\"check\":\"never\",\"expr\":\"bad\",\"refuted\":4,\"system\":0,\"targets\":[[3,4]]},\"key\":\"0/1/0:2/3\",\"kind\":\"solution\",\"text\":[\"Check\"],\"when\":2}],\"relations\":[{\"from\":0,\"kind\":\"supported\",\"to\":1,\"when\":2},{\"from\":1,\"kind\":\"supported\",\"to\":2,\"when\":2},{\"from\":2,\"kind\":\"supported\",\"to\":3,\"when\":2}],\"systems\":[{\"element\":\"c\",\"parents\":[2,2,4],\"reached\":[2,2,2,4],\"states\":[\"s0\",\"s1\",\"s2\",\"bad\"],\"transitions\":[[0,1,\"go\"],[1,2,\"go\"],[1,3,\"slip\"]]}],\"table\":[[0,0,1],[1,1,0],[0,0,3]],\"title\":\"Row\",\"valid\":2}\n"
+
+two_ways_case : List ℕ
+two_ways_case =
+    codes "{\"case\":1,\"features\":[\"R\",\"A\",\"B\"],\"nodes\":[{\"key\":\"0\",\"kind\":\"goal\",\"text\":[\"All\"],\"when\":2},{\"branches\":[2],\"key\":\"0/1\",\"kind\":\"strategy\",\"text\":[\"Over \",0],\"when\":2},{\"key\":\"0/1/0:2\",\"kind\":\"goal\",\"text\":[\"c is safe\"],\"when\":2},{\"finding\":{\"check\":\"never\",\"expr\":\"bad\",\"refuted\":2,\"system\":0,\"targets\":[[3,2]]},\"key\":\"0/1/0:2/3\",\"kind\":\"solution\",\"text\":[\"Check\"],\"when\":2}],\"relations\":[{\"from\":0,\"kind\":\"supported\",\"to\":1,\"when\":2},{\"from\":1,\"kind\":\"supported\",\"to\":2,\"when\":2},{\"from\":2,\"kind\":\"supported\",\"to\":3,\"when\":2}],\"systems\":[{\"element\":\"c\",\"parents\":[2,2,2,0],\"reached\":[2,2,2,2],\"states\":[\"s0\",\"a\",\"b\",\"bad\"],\"transitions\":[[0,2,\"x\"],[0,1,\"y\"],[1,3,\"z\"],[2,3,\"w\"]]}],\"table\":[[0,0,1]],\"title\":\"Row\",\"valid\":2}\n"
+
+bad_start_case : List ℕ
+bad_start_case =
+    codes "{\"case\":1,\"features\":[\"R\",\"A\",\"B\"],\"nodes\":[{\"key\":\"0\",\"kind\":\"goal\",\"text\":[\"All\"],\"when\":2},{\"branches\":[2],\"key\":\"0/1\",\"kind\":\"strategy\",\"text\":[\"Over \",0],\"when\":2},{\"key\":\"0/1/0:2\",\"kind\":\"goal\",\"text\":[\"c is safe\"],\"when\":2},{\"finding\":{\"check\":\"never\",\"expr\":\"bad\",\"refuted\":2,\"system\":0,\"targets\":[[0,2]]},\"key\":\"0/1/0:2/3\",\"kind\":\"solution\",\"text\":[\"Check\"],\"when\":2}],\"relations\":[{\"from\":0,\"kind\":\"supported\",\"to\":1,\"when\":2},{\"from\":1,\"kind\":\"supported\",\"to\":2,\"when\":2},{\"from\":2,\"kind\":\"supported\",\"to\":3,\"when\":2}],\"systems\":[{\"element\":\"c\",\"parents\":[2,2,2,0],\"reached\":[2,2,2,2],\"states\":[\"s0\",\"a\",\"b\",\"bad\"],\"transitions\":[[0,2,\"x\"],[0,1,\"y\"],[1,3,\"z\"],[2,3,\"w\"]]}],\"table\":[[0,0,1]],\"title\":\"Row\",\"valid\":2}\n"
+
+deadlock_case : List ℕ
+deadlock_case =
+    codes "{\"case\":1,\"features\":[\"R\",\"A\",\"B\"],\"nodes\":[{\"key\":\"0\",\"kind\":\"goal\",\"text\":[\"All\"],\"when\":2},{\"branches\":[2],\"key\":\"0/1\",\"kind\":\"strategy\",\"text\":[\"Over \",0],\"when\":2},{\"key\":\"0/1/0:2\",\"kind\":\"goal\",\"text\":[\"c is safe\"],\"when\":2},{\"finding\":{\"check\":\"deadlock\",\"refuted\":5,\"system\":0,\"targets\":[[0,5]]},\"key\":\"0/1/0:2/3\",\"kind\":\"solution\",\"text\":[\"Check\"],\"when\":2}],\"relations\":[{\"from\":0,\"kind\":\"supported\",\"to\":1,\"when\":2},{\"from\":1,\"kind\":\"supported\",\"to\":2,\"when\":2},{\"from\":2,\"kind\":\"supported\",\"to\":3,\"when\":2}],\"systems\":[{\"element\":\"c\",\"parents\":[0,0],\"reached\":[2],\"states\":[\"s0\"],\"transitions\":[[0,0,\"p\"],[0,0,\"q\"]]}],\"table\":[[0,0,1],[2,1,0],[1,3,0],[0,0,4]],\"title\":\"Row\",\"valid\":2}\n"
+
+-- what replaying a run document answers on a bundle at a world
+data Outcome : Type 0 where
+  refused : RunFault → Outcome
+  replayed : Replayed → Outcome
+
+outcome_of : List Bool → RunReading → Outcome
+outcome_of w (Refused f) = refused f
+outcome_of w (Is r) = replayed (replay_answer r.system w r.start r.steps)
+
+replays_of : List ℕ → List Bool → List ℕ → Option Outcome
+replays_of bundle w run = option_map (λ d. outcome_of w (run_of (bundle_of d).model w Json run)) (document_of Json bundle)
+
+root : List Bool
+root = true ∷ false ∷ false ∷ []
+
+root_and_first : List Bool
+root_and_first = true ∷ true ∷ false ∷ []
+
+root_and_second : List Bool
+root_and_second = true ∷ false ∷ true ∷ []
+
+ends_in_bad : replays_of system_bundle root (codes "{\"element\":\"c\",\"start\":\"s0\",\"steps\":[0,2]}") ≡ Some (replayed (Ends 3))
+unfolding meaning_on_literals outcome_of replays_of run_of replay_answer system_bundle root root_and_first
+ends_in_bad = refl
+
+not_present : replays_of system_bundle root_and_first (codes "{\"element\":\"c\",\"start\":\"s0\",\"steps\":[0,2]}") ≡ Some (replayed (NotPresent 1))
+unfolding meaning_on_literals outcome_of replays_of run_of replay_answer system_bundle root root_and_first
+not_present = refl
+
+not_joined : replays_of system_bundle root (codes "{\"element\":\"c\",\"start\":\"s0\",\"steps\":[2]}") ≡ Some (replayed (NotJoined 0))
+unfolding meaning_on_literals outcome_of replays_of run_of replay_answer system_bundle root root_and_first
+not_joined = refl
+
+not_initial : replays_of system_bundle root (codes "{\"element\":\"c\",\"start\":\"s1\",\"steps\":[0,2]}") ≡ Some (replayed NotInitial)
+unfolding meaning_on_literals outcome_of replays_of run_of replay_answer system_bundle root root_and_first
+not_initial = refl
+
+no_system : replays_of system_bundle root (codes "{\"element\":\"d\",\"start\":\"s0\",\"steps\":[0,2]}") ≡ Some (refused NoSystem)
+unfolding meaning_on_literals outcome_of replays_of run_of replay_answer system_bundle root root_and_first
+no_system = refl
+
+no_document : replays_of system_bundle root (codes "{") ≡ Some (refused NoTable)
+unfolding meaning_on_literals outcome_of replays_of run_of replay_answer system_bundle root root_and_first
+no_document = refl
+
+no_table : replays_of system_bundle root (codes "[]") ≡ Some (refused NoTable)
+unfolding meaning_on_literals outcome_of replays_of run_of replay_answer system_bundle root root_and_first
+no_table = refl
+
+no_start : replays_of system_bundle root (codes "{\"element\":\"c\",\"steps\":[0,2]}") ≡ Some (refused WrongForm)
+unfolding meaning_on_literals outcome_of replays_of run_of replay_answer system_bundle root root_and_first
+no_start = refl
+
+step_is_text : replays_of system_bundle root (codes "{\"element\":\"c\",\"start\":\"s0\",\"steps\":[0,\"2\"]}") ≡ Some (refused WrongForm)
+unfolding meaning_on_literals outcome_of replays_of run_of replay_answer system_bundle root root_and_first
+step_is_text = refl
+
+step_is_fraction : replays_of system_bundle root (codes "{\"element\":\"c\",\"start\":\"s0\",\"steps\":[0,1.0]}") ≡ Some (refused WrongForm)
+unfolding meaning_on_literals outcome_of replays_of run_of replay_answer system_bundle root root_and_first
+step_is_fraction = refl
+
+start_unknown : replays_of system_bundle root (codes "{\"element\":\"c\",\"start\":\"q\",\"steps\":[7]}") ≡ Some (refused UnknownStart)
+unfolding meaning_on_literals outcome_of replays_of run_of replay_answer system_bundle root root_and_first
+start_unknown = refl
+
+step_unknown : replays_of system_bundle root (codes "{\"element\":\"c\",\"start\":\"s0\",\"steps\":[0,3]}") ≡ Some (refused (NoTransition 1))
+unfolding meaning_on_literals outcome_of replays_of run_of replay_answer system_bundle root root_and_first
+step_unknown = refl
+
+step_negative : replays_of system_bundle root (codes "{\"element\":\"c\",\"start\":\"s0\",\"steps\":[-1]}") ≡ Some (refused (NoTransition 0))
+unfolding meaning_on_literals outcome_of replays_of run_of replay_answer system_bundle root root_and_first
+step_negative = refl
+
+no_steps : replays_of system_bundle root (codes "{\"element\":\"c\",\"start\":\"s0\",\"steps\":[]}") ≡ Some (replayed (Ends 0))
+unfolding meaning_on_literals outcome_of replays_of run_of replay_answer system_bundle root root_and_first
+no_steps = refl
+
+takes_the_lower_state_text : List ℕ
+takes_the_lower_state_text = codes "evidence Row\nwith R\nSn1 solution refuted\n  key 0/1/0:2/3\n  check never bad of c\n  run s0 -y-> a -z-> bad\n"
+
+takes_the_lower_state : shown two_ways_case Json (codes "{\"features\":[\"R\"]}") ≡ Text takes_the_lower_state_text
+unfolding meaning_on_literals shown text_of_evidence two_ways_case takes_the_lower_state_text
+takes_the_lower_state = refl
+
+starts_bad_text : List ℕ
+starts_bad_text = codes "evidence Row\nwith R\nSn1 solution refuted\n  key 0/1/0:2/3\n  check never bad of c\n  run s0\n"
+
+starts_bad : shown bad_start_case Json (codes "{\"features\":[\"R\"]}") ≡ Text starts_bad_text
+unfolding meaning_on_literals shown text_of_evidence bad_start_case starts_bad_text
+starts_bad = refl
+
+deadlocked_text : List ℕ
+deadlocked_text = codes "evidence Row\nwith R\nSn1 solution refuted\n  key 0/1/0:2/3\n  check deadlock of c\n  run s0\n"
+
+deadlocked : shown deadlock_case Json (codes "{\"features\":[\"R\"]}") ≡ Text deadlocked_text
+unfolding meaning_on_literals shown text_of_evidence deadlock_case deadlocked_text
+deadlocked = refl
+
+not_deadlocked_text : List ℕ
+not_deadlocked_text = codes "evidence Row\nwith R B\nSn1 solution supported\n  key 0/1/0:2/3\n  check deadlock of c\n  states s0\n"
+
+not_deadlocked : shown deadlock_case Json (codes "{\"features\":[\"R\",\"B\"]}") ≡ Text not_deadlocked_text
+unfolding meaning_on_literals shown text_of_evidence deadlock_case not_deadlocked_text
+not_deadlocked = refl
+
+direct_of_two_ways_text : List ℕ
+direct_of_two_ways_text = codes "case Row\nwith R\nG1 goal refuted\n  All\n  supported by S1\nS1 strategy refuted\n  Over 1\n  supported by G2\nG2 goal refuted\n  c is safe\n  supported by Sn1\nSn1 solution refuted\n  Check\n"
+
+direct_of_two_ways : option_map (λ d. direct (bundle_of d) Json (codes "{\"features\":[\"R\"]}")) (document_of Json two_ways_bundle) ≡ Some (Text direct_of_two_ways_text)
+unfolding meaning_on_literals two_ways_bundle direct_of_two_ways_text
+direct_of_two_ways = refl
+
+direct_of_deadlock_text : List ℕ
+direct_of_deadlock_text = codes "case Row\nwith R\nG1 goal refuted\n  All\n  supported by S1\nS1 strategy refuted\n  Over 1\n  supported by G2\nG2 goal refuted\n  c is safe\n  supported by Sn1\nSn1 solution refuted\n  Check\n"
+
+direct_of_deadlock : option_map (λ d. direct (bundle_of d) Json (codes "{\"features\":[\"R\"]}")) (document_of Json deadlock_bundle) ≡ Some (Text direct_of_deadlock_text)
+unfolding meaning_on_literals deadlock_bundle direct_of_deadlock_text
+direct_of_deadlock = refl
+
+-- the first broken clause of a case against a bundle of three features, over all worlds
+audited : List ℕ → List ℕ → Option (Option Place)
+audited bundle case =
+    option_map (λ d. elim (read_case case) as (λ _. Option Place) [ Broken f ↦ None | reading.Is k ↦ first_broken_among (worlds 3) (bundle_of d) k ])
+    (document_of Json bundle)
+
+built_says_yes : audited system_bundle system_case ≡ Some (None)
+unfolding meaning_on_literals audited broken_at system_bundle system_case
+built_says_yes = refl
+
+two_ways_say_yes : audited two_ways_bundle two_ways_case ≡ Some (None)
+unfolding meaning_on_literals audited broken_at two_ways_bundle two_ways_case
+two_ways_say_yes = refl
+
+bad_start_says_yes : audited bad_start_bundle bad_start_case ≡ Some (None)
+unfolding meaning_on_literals audited broken_at bad_start_bundle bad_start_case
+bad_start_says_yes = refl
+
+deadlock_says_yes : audited deadlock_bundle deadlock_case ≡ Some (None)
+unfolding meaning_on_literals audited broken_at deadlock_bundle deadlock_case
+deadlock_says_yes = refl
+
+not_closed_case : List ℕ
+not_closed_case =
+    codes "{\"case\":1,\"features\":[\"R\",\"A\",\"B\"],\"nodes\":[{\"key\":\"0\",\"kind\":\"goal\",\"text\":[\"All\"],\"when\":2},{\"branches\":[2],\"key\":\"0/1\",\"kind\":\"strategy\",\"text\":[\"Over \",0],\"when\":2},{\"key\":\"0/1/0:2\",\"kind\":\"goal\",\"text\":[\"c is safe\"],\"when\":2},{\"finding\":{\"check\":\"never\",\"expr\":\"bad\",\"refuted\":4,\"system\":0,\"targets\":[[3,4]]},\"key\":\"0/1/0:2/3\",\"kind\":\"solution\",\"text\":[\"Check\"],\"when\":2}],\"relations\":[{\"from\":0,\"kind\":\"supported\",\"to\":1,\"when\":2},{\"from\":1,\"kind\":\"supported\",\"to\":2,\"when\":2},{\"from\":2,\"kind\":\"supported\",\"to\":3,\"when\":2}],\"systems\":[{\"element\":\"c\",\"parents\":[2,2,4],\"reached\":[2,2,0,4],\"states\":[\"s0\",\"s1\",\"s2\",\"bad\"],\"transitions\":[[0,1,\"go\"],[1,2,\"go\"],[1,3,\"slip\"]]}],\"table\":[[0,0,1],[1,1,0],[0,0,3]],\"title\":\"Row\",\"valid\":2}\n"
+
+not_closed : audited system_bundle not_closed_case ≡ Some (Some (record { clause = ReachedClosed; item = 0; sub = 1 }))
+unfolding meaning_on_literals audited broken_at system_bundle not_closed_case
+not_closed = refl
+
+other_features_case : List ℕ
+other_features_case =
+    codes "{\"case\":1,\"features\":[\"R\",\"B\",\"A\"],\"nodes\":[{\"key\":\"0\",\"kind\":\"goal\",\"text\":[\"All\"],\"when\":2},{\"branches\":[2],\"key\":\"0/1\",\"kind\":\"strategy\",\"text\":[\"Over \",0],\"when\":2},{\"key\":\"0/1/0:2\",\"kind\":\"goal\",\"text\":[\"c is safe\"],\"when\":2},{\"finding\":{\"check\":\"never\",\"expr\":\"bad\",\"refuted\":4,\"system\":0,\"targets\":[[3,4]]},\"key\":\"0/1/0:2/3\",\"kind\":\"solution\",\"text\":[\"Check\"],\"when\":2}],\"relations\":[{\"from\":0,\"kind\":\"supported\",\"to\":1,\"when\":2},{\"from\":1,\"kind\":\"supported\",\"to\":2,\"when\":2},{\"from\":2,\"kind\":\"supported\",\"to\":3,\"when\":2}],\"systems\":[{\"element\":\"c\",\"parents\":[2,2,4],\"reached\":[2,2,2,4],\"states\":[\"s0\",\"s1\",\"s2\",\"bad\"],\"transitions\":[[0,1,\"go\"],[1,2,\"go\"],[1,3,\"slip\"]]}],\"table\":[[0,0,1],[1,1,0],[0,0,3]],\"title\":\"Row\",\"valid\":2}\n"
+
+other_features : audited system_bundle other_features_case ≡ Some (Some (record { clause = SameFeatures; item = 0; sub = 0 }))
+unfolding meaning_on_literals audited broken_at system_bundle other_features_case
+other_features = refl
+
+other_valid_case : List ℕ
+other_valid_case =
+    codes "{\"case\":1,\"features\":[\"R\",\"A\",\"B\"],\"nodes\":[{\"key\":\"0\",\"kind\":\"goal\",\"text\":[\"All\"],\"when\":2},{\"branches\":[2],\"key\":\"0/1\",\"kind\":\"strategy\",\"text\":[\"Over \",0],\"when\":2},{\"key\":\"0/1/0:2\",\"kind\":\"goal\",\"text\":[\"c is safe\"],\"when\":2},{\"finding\":{\"check\":\"never\",\"expr\":\"bad\",\"refuted\":4,\"system\":0,\"targets\":[[3,4]]},\"key\":\"0/1/0:2/3\",\"kind\":\"solution\",\"text\":[\"Check\"],\"when\":2}],\"relations\":[{\"from\":0,\"kind\":\"supported\",\"to\":1,\"when\":2},{\"from\":1,\"kind\":\"supported\",\"to\":2,\"when\":2},{\"from\":2,\"kind\":\"supported\",\"to\":3,\"when\":2}],\"systems\":[{\"element\":\"c\",\"parents\":[2,2,4],\"reached\":[2,2,2,4],\"states\":[\"s0\",\"s1\",\"s2\",\"bad\"],\"transitions\":[[0,1,\"go\"],[1,2,\"go\"],[1,3,\"slip\"]]}],\"table\":[[0,0,1],[1,1,0],[0,0,3]],\"title\":\"Row\",\"valid\":1}\n"
+
+other_valid : audited system_bundle other_valid_case ≡ Some (Some (record { clause = ValidExactly; item = 0; sub = 0 }))
+unfolding meaning_on_literals audited broken_at system_bundle other_valid_case
+other_valid = refl
+
+other_action_case : List ℕ
+other_action_case =
+    codes "{\"case\":1,\"features\":[\"R\",\"A\",\"B\"],\"nodes\":[{\"key\":\"0\",\"kind\":\"goal\",\"text\":[\"All\"],\"when\":2},{\"branches\":[2],\"key\":\"0/1\",\"kind\":\"strategy\",\"text\":[\"Over \",0],\"when\":2},{\"key\":\"0/1/0:2\",\"kind\":\"goal\",\"text\":[\"c is safe\"],\"when\":2},{\"finding\":{\"check\":\"never\",\"expr\":\"bad\",\"refuted\":4,\"system\":0,\"targets\":[[3,4]]},\"key\":\"0/1/0:2/3\",\"kind\":\"solution\",\"text\":[\"Check\"],\"when\":2}],\"relations\":[{\"from\":0,\"kind\":\"supported\",\"to\":1,\"when\":2},{\"from\":1,\"kind\":\"supported\",\"to\":2,\"when\":2},{\"from\":2,\"kind\":\"supported\",\"to\":3,\"when\":2}],\"systems\":[{\"element\":\"c\",\"parents\":[2,2,4],\"reached\":[2,2,2,4],\"states\":[\"s0\",\"s1\",\"s2\",\"bad\"],\"transitions\":[[0,1,\"go\"],[1,2,\"go\"],[1,3,\"slide\"]]}],\"table\":[[0,0,1],[1,1,0],[0,0,3]],\"title\":\"Row\",\"valid\":2}\n"
+
+other_action : audited system_bundle other_action_case ≡ Some (Some (record { clause = SystemsAsModelled; item = 0; sub = 0 }))
+unfolding meaning_on_literals audited broken_at system_bundle other_action_case
+other_action = refl
+
+other_element_case : List ℕ
+other_element_case =
+    codes "{\"case\":1,\"features\":[\"R\",\"A\",\"B\"],\"nodes\":[{\"key\":\"0\",\"kind\":\"goal\",\"text\":[\"All\"],\"when\":2},{\"branches\":[2],\"key\":\"0/1\",\"kind\":\"strategy\",\"text\":[\"Over \",0],\"when\":2},{\"key\":\"0/1/0:2\",\"kind\":\"goal\",\"text\":[\"c is safe\"],\"when\":2},{\"finding\":{\"check\":\"never\",\"expr\":\"bad\",\"refuted\":4,\"system\":0,\"targets\":[[3,4]]},\"key\":\"0/1/0:2/3\",\"kind\":\"solution\",\"text\":[\"Check\"],\"when\":2}],\"relations\":[{\"from\":0,\"kind\":\"supported\",\"to\":1,\"when\":2},{\"from\":1,\"kind\":\"supported\",\"to\":2,\"when\":2},{\"from\":2,\"kind\":\"supported\",\"to\":3,\"when\":2}],\"systems\":[{\"element\":\"d\",\"parents\":[2,2,4],\"reached\":[2,2,2,4],\"states\":[\"s0\",\"s1\",\"s2\",\"bad\"],\"transitions\":[[0,1,\"go\"],[1,2,\"go\"],[1,3,\"slip\"]]}],\"table\":[[0,0,1],[1,1,0],[0,0,3]],\"title\":\"Row\",\"valid\":2}\n"
+
+other_element : audited system_bundle other_element_case ≡ Some (Some (record { clause = SystemsAsModelled; item = 0; sub = 0 }))
+unfolding meaning_on_literals audited broken_at system_bundle other_element_case
+other_element = refl
+
+initial_not_reached_case : List ℕ
+initial_not_reached_case =
+    codes "{\"case\":1,\"features\":[\"R\",\"A\",\"B\"],\"nodes\":[{\"key\":\"0\",\"kind\":\"goal\",\"text\":[\"All\"],\"when\":2},{\"branches\":[2],\"key\":\"0/1\",\"kind\":\"strategy\",\"text\":[\"Over \",0],\"when\":2},{\"key\":\"0/1/0:2\",\"kind\":\"goal\",\"text\":[\"c is safe\"],\"when\":2},{\"finding\":{\"check\":\"never\",\"expr\":\"bad\",\"refuted\":4,\"system\":0,\"targets\":[[3,4]]},\"key\":\"0/1/0:2/3\",\"kind\":\"solution\",\"text\":[\"Check\"],\"when\":2}],\"relations\":[{\"from\":0,\"kind\":\"supported\",\"to\":1,\"when\":2},{\"from\":1,\"kind\":\"supported\",\"to\":2,\"when\":2},{\"from\":2,\"kind\":\"supported\",\"to\":3,\"when\":2}],\"systems\":[{\"element\":\"c\",\"parents\":[2,2,4],\"reached\":[0,2,2,4],\"states\":[\"s0\",\"s1\",\"s2\",\"bad\"],\"transitions\":[[0,1,\"go\"],[1,2,\"go\"],[1,3,\"slip\"]]}],\"table\":[[0,0,1],[1,1,0],[0,0,3]],\"title\":\"Row\",\"valid\":2}\n"
+
+initial_not_reached : audited system_bundle initial_not_reached_case ≡ Some (Some (record { clause = InitialReached; item = 0; sub = 0 }))
+unfolding meaning_on_literals audited broken_at system_bundle initial_not_reached_case
+initial_not_reached = refl
+
+check_does_not_read_case : List ℕ
+check_does_not_read_case =
+    codes "{\"case\":1,\"features\":[\"R\",\"A\",\"B\"],\"nodes\":[{\"key\":\"0\",\"kind\":\"goal\",\"text\":[\"All\"],\"when\":2},{\"branches\":[2],\"key\":\"0/1\",\"kind\":\"strategy\",\"text\":[\"Over \",0],\"when\":2},{\"key\":\"0/1/0:2\",\"kind\":\"goal\",\"text\":[\"c is safe\"],\"when\":2},{\"finding\":{\"check\":\"never\",\"expr\":\"bad &\",\"refuted\":4,\"system\":0,\"targets\":[[3,4]]},\"key\":\"0/1/0:2/3\",\"kind\":\"solution\",\"text\":[\"Check\"],\"when\":2}],\"relations\":[{\"from\":0,\"kind\":\"supported\",\"to\":1,\"when\":2},{\"from\":1,\"kind\":\"supported\",\"to\":2,\"when\":2},{\"from\":2,\"kind\":\"supported\",\"to\":3,\"when\":2}],\"systems\":[{\"element\":\"c\",\"parents\":[2,2,4],\"reached\":[2,2,2,4],\"states\":[\"s0\",\"s1\",\"s2\",\"bad\"],\"transitions\":[[0,1,\"go\"],[1,2,\"go\"],[1,3,\"slip\"]]}],\"table\":[[0,0,1],[1,1,0],[0,0,3]],\"title\":\"Row\",\"valid\":2}\n"
+
+check_does_not_read : audited system_bundle check_does_not_read_case ≡ Some (Some (record { clause = ChecksRead; item = 3; sub = 0 }))
+unfolding meaning_on_literals audited broken_at system_bundle check_does_not_read_case
+check_does_not_read = refl
+
+never_refuted_case : List ℕ
+never_refuted_case =
+    codes "{\"case\":1,\"features\":[\"R\",\"A\",\"B\"],\"nodes\":[{\"key\":\"0\",\"kind\":\"goal\",\"text\":[\"All\"],\"when\":2},{\"branches\":[2],\"key\":\"0/1\",\"kind\":\"strategy\",\"text\":[\"Over \",0],\"when\":2},{\"key\":\"0/1/0:2\",\"kind\":\"goal\",\"text\":[\"c is safe\"],\"when\":2},{\"finding\":{\"check\":\"never\",\"expr\":\"bad\",\"refuted\":0,\"system\":0,\"targets\":[[3,4]]},\"key\":\"0/1/0:2/3\",\"kind\":\"solution\",\"text\":[\"Check\"],\"when\":2}],\"relations\":[{\"from\":0,\"kind\":\"supported\",\"to\":1,\"when\":2},{\"from\":1,\"kind\":\"supported\",\"to\":2,\"when\":2},{\"from\":2,\"kind\":\"supported\",\"to\":3,\"when\":2}],\"systems\":[{\"element\":\"c\",\"parents\":[2,2,4],\"reached\":[2,2,2,4],\"states\":[\"s0\",\"s1\",\"s2\",\"bad\"],\"transitions\":[[0,1,\"go\"],[1,2,\"go\"],[1,3,\"slip\"]]}],\"table\":[[0,0,1],[1,1,0],[0,0,3]],\"title\":\"Row\",\"valid\":2}\n"
+
+never_refuted : audited system_bundle never_refuted_case ≡ Some (Some (record { clause = SupportedSafe; item = 3; sub = 3 }))
+unfolding meaning_on_literals audited broken_at system_bundle never_refuted_case
+never_refuted = refl
+
+always_refuted_case : List ℕ
+always_refuted_case =
+    codes "{\"case\":1,\"features\":[\"R\",\"A\",\"B\"],\"nodes\":[{\"key\":\"0\",\"kind\":\"goal\",\"text\":[\"All\"],\"when\":2},{\"branches\":[2],\"key\":\"0/1\",\"kind\":\"strategy\",\"text\":[\"Over \",0],\"when\":2},{\"key\":\"0/1/0:2\",\"kind\":\"goal\",\"text\":[\"c is safe\"],\"when\":2},{\"finding\":{\"check\":\"never\",\"expr\":\"bad\",\"refuted\":2,\"system\":0,\"targets\":[[3,4]]},\"key\":\"0/1/0:2/3\",\"kind\":\"solution\",\"text\":[\"Check\"],\"when\":2}],\"relations\":[{\"from\":0,\"kind\":\"supported\",\"to\":1,\"when\":2},{\"from\":1,\"kind\":\"supported\",\"to\":2,\"when\":2},{\"from\":2,\"kind\":\"supported\",\"to\":3,\"when\":2}],\"systems\":[{\"element\":\"c\",\"parents\":[2,2,4],\"reached\":[2,2,2,4],\"states\":[\"s0\",\"s1\",\"s2\",\"bad\"],\"transitions\":[[0,1,\"go\"],[1,2,\"go\"],[1,3,\"slip\"]]}],\"table\":[[0,0,1],[1,1,0],[0,0,3]],\"title\":\"Row\",\"valid\":2}\n"
+
+always_refuted : audited system_bundle always_refuted_case ≡ Some (Some (record { clause = RefutedViolates; item = 3; sub = 0 }))
+unfolding meaning_on_literals audited broken_at system_bundle always_refuted_case
+always_refuted = refl
+
+no_target_case : List ℕ
+no_target_case =
+    codes "{\"case\":1,\"features\":[\"R\",\"A\",\"B\"],\"nodes\":[{\"key\":\"0\",\"kind\":\"goal\",\"text\":[\"All\"],\"when\":2},{\"branches\":[2],\"key\":\"0/1\",\"kind\":\"strategy\",\"text\":[\"Over \",0],\"when\":2},{\"key\":\"0/1/0:2\",\"kind\":\"goal\",\"text\":[\"c is safe\"],\"when\":2},{\"finding\":{\"check\":\"never\",\"expr\":\"bad\",\"refuted\":4,\"system\":0,\"targets\":[]},\"key\":\"0/1/0:2/3\",\"kind\":\"solution\",\"text\":[\"Check\"],\"when\":2}],\"relations\":[{\"from\":0,\"kind\":\"supported\",\"to\":1,\"when\":2},{\"from\":1,\"kind\":\"supported\",\"to\":2,\"when\":2},{\"from\":2,\"kind\":\"supported\",\"to\":3,\"when\":2}],\"systems\":[{\"element\":\"c\",\"parents\":[2,2,4],\"reached\":[2,2,2,4],\"states\":[\"s0\",\"s1\",\"s2\",\"bad\"],\"transitions\":[[0,1,\"go\"],[1,2,\"go\"],[1,3,\"slip\"]]}],\"table\":[[0,0,1],[1,1,0],[0,0,3]],\"title\":\"Row\",\"valid\":2}\n"
+
+no_target : audited system_bundle no_target_case ≡ Some (Some (record { clause = RefutedViolates; item = 3; sub = 0 }))
+unfolding meaning_on_literals audited broken_at system_bundle no_target_case
+no_target = refl
+
+good_target_case : List ℕ
+good_target_case =
+    codes "{\"case\":1,\"features\":[\"R\",\"A\",\"B\"],\"nodes\":[{\"key\":\"0\",\"kind\":\"goal\",\"text\":[\"All\"],\"when\":2},{\"branches\":[2],\"key\":\"0/1\",\"kind\":\"strategy\",\"text\":[\"Over \",0],\"when\":2},{\"key\":\"0/1/0:2\",\"kind\":\"goal\",\"text\":[\"c is safe\"],\"when\":2},{\"finding\":{\"check\":\"never\",\"expr\":\"bad\",\"refuted\":4,\"system\":0,\"targets\":[[2,4]]},\"key\":\"0/1/0:2/3\",\"kind\":\"solution\",\"text\":[\"Check\"],\"when\":2}],\"relations\":[{\"from\":0,\"kind\":\"supported\",\"to\":1,\"when\":2},{\"from\":1,\"kind\":\"supported\",\"to\":2,\"when\":2},{\"from\":2,\"kind\":\"supported\",\"to\":3,\"when\":2}],\"systems\":[{\"element\":\"c\",\"parents\":[2,2,4],\"reached\":[2,2,2,4],\"states\":[\"s0\",\"s1\",\"s2\",\"bad\"],\"transitions\":[[0,1,\"go\"],[1,2,\"go\"],[1,3,\"slip\"]]}],\"table\":[[0,0,1],[1,1,0],[0,0,3]],\"title\":\"Row\",\"valid\":2}\n"
+
+good_target : audited system_bundle good_target_case ≡ Some (Some (record { clause = RefutedViolates; item = 3; sub = 0 }))
+unfolding meaning_on_literals audited broken_at system_bundle good_target_case
+good_target = refl
+
+no_way_back_case : List ℕ
+no_way_back_case =
+    codes "{\"case\":1,\"features\":[\"R\",\"A\",\"B\"],\"nodes\":[{\"key\":\"0\",\"kind\":\"goal\",\"text\":[\"All\"],\"when\":2},{\"branches\":[2],\"key\":\"0/1\",\"kind\":\"strategy\",\"text\":[\"Over \",0],\"when\":2},{\"key\":\"0/1/0:2\",\"kind\":\"goal\",\"text\":[\"c is safe\"],\"when\":2},{\"finding\":{\"check\":\"never\",\"expr\":\"bad\",\"refuted\":4,\"system\":0,\"targets\":[[3,4]]},\"key\":\"0/1/0:2/3\",\"kind\":\"solution\",\"text\":[\"Check\"],\"when\":2}],\"relations\":[{\"from\":0,\"kind\":\"supported\",\"to\":1,\"when\":2},{\"from\":1,\"kind\":\"supported\",\"to\":2,\"when\":2},{\"from\":2,\"kind\":\"supported\",\"to\":3,\"when\":2}],\"systems\":[{\"element\":\"c\",\"parents\":[0,2,4],\"reached\":[2,2,2,4],\"states\":[\"s0\",\"s1\",\"s2\",\"bad\"],\"transitions\":[[0,1,\"go\"],[1,2,\"go\"],[1,3,\"slip\"]]}],\"table\":[[0,0,1],[1,1,0],[0,0,3]],\"title\":\"Row\",\"valid\":2}\n"
+
+no_way_back : audited system_bundle no_way_back_case ≡ Some (Some (record { clause = RefutedReplays; item = 3; sub = 0 }))
+unfolding meaning_on_literals audited broken_at system_bundle no_way_back_case
+no_way_back = refl
