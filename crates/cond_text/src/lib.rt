@@ -1,0 +1,9 @@
+//! Expressions over named truth values, and lists of names.
+//!
+//! An [`Expr`] speaks of names by their numbers in a list of names. What it means, how it is read and how it prints is said by the definitions
+//! in `meaning`, to which `specs/View.antt` ties the types of this crate.
+#![tactic(auto)]
+
+mod expr;
+
+pub use expr::{Expr, truth};
