@@ -29,6 +29,7 @@ pub mod Reports
 pub mod BundleRules
 pub mod ThinForm
 pub mod ThinCases
+pub mod ThinTests
 pub mod BuiltForms
 pub mod Rules
 pub mod RuleViolations
