@@ -1,2 +1,3 @@
 pub mod PlainWords
 pub mod WordsView
+pub mod StatusView

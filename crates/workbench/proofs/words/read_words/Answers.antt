@@ -1,6 +1,3 @@
-use Rattle.std.proofs.Common.{◌∙◌, ap, rules}
-use Rattle.workbench.specs.PlainWords.{build_of}
-use Rattle.meaning.specs.Words.{limit_of}
 use Rattle.workbench.proofs.CommandLines.{five_words}
 use Rattle.workbench.proofs.words.read_words.Goals as goal
 
