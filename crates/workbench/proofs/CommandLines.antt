@@ -1,5 +1,5 @@
 -- What a command line is, word by word, and against the words of a program that knows more commands.
-use Rattle.std.proofs.Common.{◌≡◌, refl, sym, ap, ◌∙◌, ℕ, suc, List, [], ◌∷◌, length, map, get_or, String, Global, string_bytes, arith}
+use Rattle.std.proofs.Common.{◌≡◌, refl, sym, ap, ℕ, List, [], ◌∷◌, length, map, get_or, String, Global, string_bytes, arith}
 use Rattle.std.specs.Prelude.{◌^◌, ◌-◌, Bool, true, false, if◌then◌else◌, Option, Some, None, option_map, option_and_then, codes, bytes_eq}
 use Rattle.std.proofs.lemmas.Slice.Eq.{bytes_eq-Decides}
 use Rattle.meaning.specs.Words.{Task, Build, Derive, Product, Evidence, TestRules, Audit, Report, Replay, Generate, Workload, Invocation, number_within, generated, task_of_one, task_of_two, task_of_three, with_limit, default_limit, either_of, if_known, knows_build, limit_of, invocation_of}

@@ -1,2 +1,4 @@
 pub mod CommandLines
 pub mod StatusLines
+pub mod NewNames
+pub mod OneItem

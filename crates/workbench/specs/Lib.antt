@@ -1,3 +1,4 @@
 pub mod PlainWords
 pub mod WordsView
 pub mod StatusView
+pub mod ItemNames
