@@ -1,6 +1,6 @@
-pub mod Search
+mod Search
 pub mod Reduced
-pub mod ChainLemmas
+mod ChainLemmas
 pub mod Values
 pub mod Canonical
 pub mod MakeLemmas

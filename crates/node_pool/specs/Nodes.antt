@@ -2,6 +2,11 @@
 use Rattle.std.specs.Prelude.{◌≡◌, ◌≢◌, ℕ, zero, suc, ◌+◌, ◌-◌, ◌<◌, ◌≤◌, List, length, slice_index_or, if◌then◌else◌, nat_lt, ◌==◌}
 use Rattle.meaning.specs.Cofactors.{World, Function}
 use Rattle.node_pool.specs.declared.node.Node.{Node}
+use Rattle.node_pool.specs.declared.node.NodeNo.{NodeNo}
+
+-- the node with this variable and these children
+abbrev pub triple : ℕ → NodeNo → NodeNo → Node
+triple var low high = record { var = var; low = low; high = high }
 
 -- what a place past the end is read as
 abbrev pub no_node : Node

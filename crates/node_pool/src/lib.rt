@@ -13,6 +13,8 @@ mod hash;
 mod memory;
 mod node;
 mod pool;
+#[cfg(test)]
+mod tests;
 
 pub use memory::NoMemory;
 pub use node::NodeNo;

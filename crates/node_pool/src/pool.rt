@@ -1,8 +1,8 @@
 //! The region of nodes with its unique table.
 
-ghost use Rattle.std.specs.Prelude.{◌≡◌, ◌≢◌, ◌↔◌, ℕ, ◌+◌, ◌-◌, ◌<◌, ◌≤◌, ◌++◌, ◌∷◌, [], length, MatchOption, IfOk, OnErr, IsErr, IsOk, IsTrue};
+ghost use Rattle.std.specs.Prelude.{◌≡◌, ◌↔◌, ◌+◌, ◌<◌, ◌≤◌, ◌++◌, ◌∷◌, [], length, MatchOption, IfOk, OnErr, IsErr, IsOk, IsTrue};
 ghost use Rattle.meaning.specs.Cofactors.{IsThere, Lacks, Agree};
-ghost use Rattle.node_pool.specs.Nodes.{node_at, top_of, MayStand, IsAbsent};
+ghost use Rattle.node_pool.specs.Nodes.{triple, top_of, MayStand, IsAbsent};
 ghost use Rattle.node_pool.specs.Regions.{IsRegion, IsInner, IsNumberOf, IsNew, IsFull};
 ghost use Rattle.node_pool.specs.Functions.{pool_of, function_of, branch, AgreeAtAll};
 ghost use Rattle.node_pool.specs.Made.{Makes, Grows};
@@ -97,12 +97,26 @@ impl Pool {
     /// The variable, the low child and the high child of a node.
     pub fn triple(&self, number: NodeNo) -> (u16, NodeNo, NodeNo)
         requires { IsInner self.now number }
-        ensures { IsNumberOf self.now number (record { var = result.0; low = result.1; high = result.2 }) }
+        ensures { IsNumberOf self.now number (triple result.0 result.1 result.2) }
     {
         let node = self.nodes[number.0 as usize - 2];
         (node.var, node.low, node.high)
     }
 
+    /// The variable at which the number branches. The constants branch after all variables: theirs is `vars`.
+    #[tactic(auto, unfolding(crate::specs::Nodes::top_of))]
+    pub fn top(&self, number: NodeNo) -> u16
+        requires { IsThere (pool_of self.now) number.0 }
+        ensures { result ≡ top_of self.now.vars self.now.nodes number.0 }
+    {
+        if number.0 < 2 {
+            self.vars
+        } else {
+            self.triple(number).0
+        }
+    }
+
+    /// The number of the triple, where it is there.
     fn find(&self, node: Node) -> Option<NodeNo>
         ensures { MatchOption result
             (IsAbsent self.now.nodes node)
@@ -144,17 +158,17 @@ impl Pool {
         // Equal children give that child.
         ensures equal { low ≡ high → (result ≡ Ok low) × (self.new ≡ self.old) }
         // A triple that is there gives its number.
-        ensures present { (number : NodeNo) → IsNumberOf self.old number (record { var = var; low = low; high = high })
+        ensures present { (number : NodeNo) → IsNumberOf self.old number (triple var low high)
             → (result ≡ Ok number) × (self.new ≡ self.old) }
         // A new triple takes the next number, and is refused exactly where the pool is full.
-        ensures added { IsOk result → IsNew self.old (record { var = var; low = low; high = high })
+        ensures added { IsOk result → IsNew self.old (triple var low high)
             → (result ≡ Ok (record { 0 = length self.old.nodes + 2 }))
-            × (self.new ≡ record self.old { nodes = self.old.nodes ++ record { var = var; low = low; high = high } ∷ [] }) }
-        ensures full { IsErr result ↔ IsFull self.old (record { var = var; low = low; high = high }) }
+            × (self.new ≡ record self.old { nodes = self.old.nodes ++ triple var low high ∷ [] }) }
+        ensures full { IsErr result ↔ IsFull self.old (triple var low high) }
         ensures err { OnErr result (self.new ≡ self.old) }
 
         // What follows for functions.
-        ensures ok { IfOk result (Makes self.old self.new (record { var = var; low = low; high = high })) }
+        ensures ok { IfOk result (Makes self.old self.new (triple var low high)) }
         ensures lacks { OnErr result (Lacks self.old.vars (pool_of self.new)
             (branch var (function_of self.old low.0) (function_of self.old high.0))) }
         ensures grows { Grows self.old self.new }
