@@ -46,68 +46,77 @@ once_each vars nodes j k reduced j_in k_in same =
     (cases_lt k j))
     (cases_lt j k)
 
-canonical_below : (bound vars : ℕ) (nodes : List Node) (a b : ℕ) → IsReduced vars nodes → a < length nodes + 2 → b < length nodes + 2 → a < bound → b < bound → SameFunction nodes a b → a ≡ b
-canonical_below zero vars nodes a b reduced a_in b_in a_less b_less same = absurd (omega arith)
-canonical_below (suc bound) vars nodes a b reduced a_in b_in a_less b_less same =
-    let skewed : (x y : ℕ) → x < suc bound → 2 ≤ x → x < length nodes + 2 → y < length nodes + 2 → var_of nodes x < top_of vars nodes y → SameFunction nodes x y → x ≡ y =
-    λ x y x_less inner x_in y_in later both.
-    let low_less : low_of nodes x < x = low_of-less vars nodes x reduced inner x_in in
-    let high_less : high_of nodes x < x = high_of-less vars nodes x reduced inner x_in in
-    absurd ((stands_at vars nodes x reduced inner x_in).children_differ
-    (canonical_below bound vars nodes (low_of nodes x) (high_of nodes x) reduced (omega arith) (omega arith) (omega arith) (omega arith)
-    (children_same vars nodes x y reduced inner x_in y_in later both))) in
-    let top_a : top_of vars nodes a ≤ vars = top_of-within vars nodes a reduced a_in in
-    let top_b : top_of vars nodes b ≤ vars = top_of-within vars nodes b reduced b_in in
-    ⊎_elim
-    (λ (a_small : a < 2).
-    ⊎_elim
-    (λ (b_small : b < 2).
-    let tests : eqb a 1 ≡ eqb b 1 = sym (value-constant nodes a (λ _. false) a_small) ∙ same (λ _. false) ∙ value-constant nodes b (λ _. false) b_small in
-    grind (arith, nat_tests))
-    (λ (b_inner : 2 ≤ b).
-    let var_in : var_of nodes b < vars = (stands_at vars nodes b reduced b_inner b_in).var_in in
-    let later : var_of nodes b < top_of vars nodes a = omega (arith, top_of-constant vars nodes a a_small) in
-    sym (skewed b a b_less b_inner b_in a_in later (λ w. sym (same w))))
-    (cases_lt b 2))
-    (λ (a_inner : 2 ≤ a).
-    let var_a : var_of nodes a < vars = (stands_at vars nodes a reduced a_inner a_in).var_in in
-    ⊎_elim
-    (λ (b_small : b < 2).
-    let later : var_of nodes a < top_of vars nodes b = omega (arith, top_of-constant vars nodes b b_small) in
-    skewed a b a_less a_inner a_in b_in later same)
-    (λ (b_inner : 2 ≤ b).
-    let at_b : top_of vars nodes b ≡ var_of nodes b = top_of-inner vars nodes b b_inner in
-    let at_a : top_of vars nodes a ≡ var_of nodes a = top_of-inner vars nodes a a_inner in
-    ⊎_elim
-    (λ (less : var_of nodes a < var_of nodes b). let later : var_of nodes a < top_of vars nodes b = omega arith in skewed a b a_less a_inner a_in b_in later same)
-    (λ (not_less : var_of nodes b ≤ var_of nodes a).
-    ⊎_elim
-    (λ (less : var_of nodes b < var_of nodes a).
-    let later : var_of nodes b < top_of vars nodes a = omega arith in
-    sym (skewed b a b_less b_inner b_in a_in later (λ w. sym (same w))))
-    (λ (not_more : var_of nodes a ≤ var_of nodes b).
-    let vars_same : var_of nodes a ≡ var_of nodes b = omega arith in
+-- of the numbers below the bound, two with one function are one
+abbrev pub IsCanonicalBelow : ℕ → List Node → Type 0
+IsCanonicalBelow bound nodes = (a b : ℕ) → a < length nodes + 2 → b < length nodes + 2 → a < bound → b < bound → SameFunction nodes a b → a ≡ b
+
+-- a number that branches first has a function of its own: else its two children had one function
+differ_by_top : (bound vars : ℕ) (nodes : List Node) (a b : ℕ) → IsReduced vars nodes → IsCanonicalBelow bound nodes → a ≤ bound → 2 ≤ a → a < length nodes + 2 → b < length nodes + 2 → var_of nodes a < top_of vars nodes b → SameFunction nodes a b → ⊥
+differ_by_top bound vars nodes a b reduced below a_in_bound inner a_in b_in later same =
+    let low_less : low_of nodes a < a = low_of-less vars nodes a reduced inner a_in in
+    let high_less : high_of nodes a < a = high_of-less vars nodes a reduced inner a_in in
+    let children : SameFunction nodes (low_of nodes a) (high_of nodes a) = children_same vars nodes a b reduced inner a_in b_in later same in
+    (stands_at vars nodes a reduced inner a_in).children_differ (below (low_of nodes a) (high_of nodes a) (omega arith) (omega arith) (omega arith) (omega arith) children)
+
+-- two that branch at one variable have the same children, and so are one
+same_at_top : (bound vars : ℕ) (nodes : List Node) (a b : ℕ) → IsReduced vars nodes → IsCanonicalBelow bound nodes → a ≤ bound → b ≤ bound → 2 ≤ a → 2 ≤ b → a < length nodes + 2 → b < length nodes + 2 → var_of nodes a ≡ var_of nodes b → SameFunction nodes a b → a ≡ b
+same_at_top bound vars nodes a b reduced below a_in_bound b_in_bound a_inner b_inner a_in b_in vars_same same =
     let low_a : low_of nodes a < a = low_of-less vars nodes a reduced a_inner a_in in
     let high_a : high_of nodes a < a = high_of-less vars nodes a reduced a_inner a_in in
     let low_b : low_of nodes b < b = low_of-less vars nodes b reduced b_inner b_in in
     let high_b : high_of nodes b < b = high_of-less vars nodes b reduced b_inner b_in in
-    let lows : low_of nodes a ≡ low_of nodes b =
-    canonical_below bound vars nodes (low_of nodes a) (low_of nodes b) reduced (omega arith) (omega arith) (omega arith) (omega arith)
-    (λ w. value-low_of vars nodes a w reduced a_inner a_in ∙ same (put w (var_of nodes a) false) ∙ ap (λ (v : ℕ). value nodes b (put w v false)) vars_same ∙ sym (value-low_of vars nodes b w reduced b_inner b_in)) in
-    let highs : high_of nodes a ≡ high_of nodes b =
-    canonical_below bound vars nodes (high_of nodes a) (high_of nodes b) reduced (omega arith) (omega arith) (omega arith) (omega arith)
-    (λ w. value-high_of vars nodes a w reduced a_inner a_in ∙ same (put w (var_of nodes a) true) ∙ ap (λ (v : ℕ). value nodes b (put w v true)) vars_same ∙ sym (value-high_of vars nodes b w reduced b_inner b_in)) in
-    let places : a - 2 ≡ b - 2 =
-    once_each vars nodes (a - 2) (b - 2) reduced (omega arith) (omega arith) (node_same (node_at nodes (a - 2)) (node_at nodes (b - 2)) vars_same lows highs) in
-    omega arith)
-    (cases_lt (var_of nodes b) (var_of nodes a)))
-    (cases_lt (var_of nodes a) (var_of nodes b)))
-    (cases_lt b 2))
+    let moved : (truth : Bool) (w : World) → value nodes a (put w (var_of nodes a) truth) ≡ value nodes b (put w (var_of nodes b) truth) = λ truth w. same (put w (var_of nodes a) truth) ∙ ap (λ (v : ℕ). value nodes b (put w v truth)) vars_same in
+    let lows_same : SameFunction nodes (low_of nodes a) (low_of nodes b) = λ w. value-low_of vars nodes a w reduced a_inner a_in ∙ moved false w ∙ sym (value-low_of vars nodes b w reduced b_inner b_in) in
+    let highs_same : SameFunction nodes (high_of nodes a) (high_of nodes b) = λ w. value-high_of vars nodes a w reduced a_inner a_in ∙ moved true w ∙ sym (value-high_of vars nodes b w reduced b_inner b_in) in
+    let lows : low_of nodes a ≡ low_of nodes b = below (low_of nodes a) (low_of nodes b) (omega arith) (omega arith) (omega arith) (omega arith) lows_same in
+    let highs : high_of nodes a ≡ high_of nodes b = below (high_of nodes a) (high_of nodes b) (omega arith) (omega arith) (omega arith) (omega arith) highs_same in
+    let triples : node_at nodes (a - 2) ≡ node_at nodes (b - 2) = node_same (node_at nodes (a - 2)) (node_at nodes (b - 2)) vars_same lows highs in
+    let places : a - 2 ≡ b - 2 = once_each vars nodes (a - 2) (b - 2) reduced (omega arith) (omega arith) triples in
+    omega arith
+
+-- the constants differ, and an inner number branches before them
+same_as_constant : (bound vars : ℕ) (nodes : List Node) (a b : ℕ) → IsReduced vars nodes → IsCanonicalBelow bound nodes → a ≤ bound → a < length nodes + 2 → b < 2 → SameFunction nodes a b → a ≡ b
+same_as_constant bound vars nodes a b reduced below a_in_bound a_in b_small same =
+    ⊎_elim
+    (λ (a_small : a < 2).
+    let tests : eqb a 1 ≡ eqb b 1 = sym (value-constant nodes a (λ _. false) a_small) ∙ same (λ _. false) ∙ value-constant nodes b (λ _. false) b_small in
+    grind (arith, nat_tests))
+    (λ (inner : 2 ≤ a).
+    let var_in : var_of nodes a < vars = (stands_at vars nodes a reduced inner a_in).var_in in
+    let later : var_of nodes a < top_of vars nodes b = omega (arith, top_of-constant vars nodes b b_small) in
+    absurd (differ_by_top bound vars nodes a b reduced below a_in_bound inner a_in (omega arith) later same))
     (cases_lt a 2)
 
--- in a reduced region two numbers with one function are one number
+canonical_next : (bound vars : ℕ) (nodes : List Node) → IsReduced vars nodes → IsCanonicalBelow bound nodes → IsCanonicalBelow (suc bound) nodes
+canonical_next bound vars nodes reduced below a b a_in b_in a_less b_less same =
+    let back : SameFunction nodes b a = λ w. sym (same w) in
+    let inner_both : 2 ≤ a → 2 ≤ b → a ≡ b = λ a_inner b_inner.
+    let at_a : top_of vars nodes a ≡ var_of nodes a = top_of-inner vars nodes a a_inner in
+    let at_b : top_of vars nodes b ≡ var_of nodes b = top_of-inner vars nodes b b_inner in
+    ⊎_elim
+    (λ (less : var_of nodes a < var_of nodes b). absurd (differ_by_top bound vars nodes a b reduced below (omega arith) a_inner a_in b_in (omega arith) same))
+    (λ (not_less : var_of nodes b ≤ var_of nodes a).
+    ⊎_elim
+    (λ (less : var_of nodes b < var_of nodes a). absurd (differ_by_top bound vars nodes b a reduced below (omega arith) b_inner b_in a_in (omega arith) back))
+    (λ (not_more : var_of nodes a ≤ var_of nodes b). same_at_top bound vars nodes a b reduced below (omega arith) (omega arith) a_inner b_inner a_in b_in (omega arith) same)
+    (cases_lt (var_of nodes b) (var_of nodes a)))
+    (cases_lt (var_of nodes a) (var_of nodes b)) in
+    ⊎_elim
+    (λ (b_small : b < 2). same_as_constant bound vars nodes a b reduced below (omega arith) a_in b_small same)
+    (λ (b_inner : 2 ≤ b).
+    ⊎_elim
+    (λ (a_small : a < 2). sym (same_as_constant bound vars nodes b a reduced below (omega arith) b_in a_small back))
+    (λ (a_inner : 2 ≤ a). inner_both a_inner b_inner)
+    (cases_lt a 2))
+    (cases_lt b 2)
+
+canonical_below : (bound vars : ℕ) (nodes : List Node) → IsReduced vars nodes → IsCanonicalBelow bound nodes
+canonical_below zero vars nodes reduced = λ a b a_in b_in a_less b_less same. absurd (omega arith)
+canonical_below (suc bound) vars nodes reduced = canonical_next bound vars nodes reduced (canonical_below bound vars nodes reduced)
+
+-- in a reduced list two numbers with one function are one number
 pub canonical : (vars : ℕ) (nodes : List Node) (a b : ℕ) → IsReduced vars nodes → a < length nodes + 2 → b < length nodes + 2 → SameFunction nodes a b → a ≡ b
-canonical vars nodes a b reduced a_in b_in same = canonical_below (a + b + 1) vars nodes a b reduced a_in b_in (omega arith) (omega arith) same
+canonical vars nodes a b reduced a_in b_in same = canonical_below (a + b + 1) vars nodes reduced a b a_in b_in (omega arith) (omega arith) same
 
 -- what a triple that stands nowhere computes is the function of no number
 pub absent_function : (vars : ℕ) (nodes : List Node) (node : Node) (n : ℕ) → IsReduced vars nodes → MayStand vars nodes node (length nodes) → IsAbsent nodes node → n < length nodes + 2 → Agree (value nodes n) (branch node.var (value nodes node.low.0) (value nodes node.high.0)) → ⊥

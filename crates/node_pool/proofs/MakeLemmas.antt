@@ -1,12 +1,12 @@
 -- What a triple that is there, a new one and a refused one tell of functions.
-use Rattle.std.proofs.Common.{◌≡◌, ◌≢◌, ℕ, ◌+◌, ◌-◌, ◌<◌, ◌≤◌, Bool, false, cond, eqb, ltb, List, [], ◌∷◌, ◌++◌, length, arith, sym, ap, ◌∙◌, refl, subst, length-append}
+use Rattle.std.proofs.Common.{◌≡◌, ◌≢◌, ℕ, ◌+◌, ◌-◌, Bool, false, cond, eqb, ltb, [], ◌∷◌, ◌++◌, length, arith, sym, ap, ◌∙◌, refl, length-append}
 use Rattle.std.proofs.lemmas.Bool.Decides.{nat_tests}
-use Rattle.meaning.specs.Cofactors.{World, Function, Agree, Pool, Lacks, cofactor}
+use Rattle.meaning.specs.Cofactors.{World, Function, Agree, Lacks, cofactor}
 use Rattle.node_pool.specs.declared.node.Node.{Node}
 use Rattle.node_pool.specs.declared.node.NodeNo.{NodeNo}
 use Rattle.node_pool.specs.Nodes.{node_at, top_of, value, MayStand, IsReduced, IsAbsent, Extends}
 use Rattle.node_pool.specs.Regions.{Region, IsNumberOf}
-use Rattle.node_pool.specs.Functions.{pool_of, function_of, branch, Keeps}
+use Rattle.node_pool.specs.Functions.{pool_of, branch}
 use Rattle.node_pool.specs.Made.{Makes, Grows}
 use Rattle.node_pool.proofs.Reduced.{top_of-inner, Extends-push, IsReduced-push, node_at-pushed}
 use Rattle.node_pool.proofs.Values.{value-inner, value-extends}

@@ -1,5 +1,5 @@
 -- What making a node tells.
-use Rattle.std.specs.Prelude.{◌≡◌, ◌≢◌, ℕ, ◌+◌, ◌<◌, ◌≤◌, length}
+use Rattle.std.specs.Prelude.{◌≡◌, ◌≢◌, ◌+◌, ◌≤◌, length}
 use Rattle.meaning.specs.Cofactors.{IsThere, Agree, AddsCofactors}
 use Rattle.node_pool.specs.declared.node.Node.{Node}
 use Rattle.node_pool.specs.declared.node.NodeNo.{NodeNo}

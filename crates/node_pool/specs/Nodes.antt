@@ -1,6 +1,6 @@
 -- Lists of nodes: which number has which function, and when a list is reduced and ordered.
 use Rattle.std.specs.Prelude.{◌≡◌, ◌≢◌, ℕ, zero, suc, ◌+◌, ◌-◌, ◌<◌, ◌≤◌, List, length, slice_index_or, if◌then◌else◌, nat_lt, ◌==◌}
-use Rattle.meaning.specs.Cofactors.{World, Function}
+use Rattle.meaning.specs.Cofactors.{Function}
 use Rattle.node_pool.specs.declared.node.Node.{Node}
 use Rattle.node_pool.specs.declared.node.NodeNo.{NodeNo}
 

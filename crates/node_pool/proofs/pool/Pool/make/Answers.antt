@@ -1,7 +1,7 @@
-use Rattle.std.proofs.Common.{◌≡◌, ◌+◌, ◌<◌, false, eqb, length, arith, sym, ap, ◌∙◌, subst, ◌∷◌, [], length-append}
+use Rattle.std.proofs.Common.{◌≡◌, ◌+◌, ◌<◌, false, eqb, length, arith, sym, ap, subst, ◌∷◌, [], length-append}
 use Rattle.node_pool.specs.declared.node.Node.{Node}
 use Rattle.node_pool.specs.declared.node.NodeNo.{NodeNo}
-use Rattle.node_pool.specs.Nodes.{triple, top_of, MayStand, IsReduced, IsAbsent}
+use Rattle.node_pool.specs.Nodes.{triple, top_of, MayStand, IsReduced}
 use Rattle.node_pool.specs.Regions.{Region}
 use Rattle.node_pool.specs.Made.{Makes, Grows}
 use Rattle.node_pool.proofs.MakeLemmas.{Makes-found, Makes-pushed, Grows-pushed, Lacks-absent, differ_by_number, pushed}
