@@ -51,7 +51,7 @@ impl Model for Pool {
 }
 
 impl Pool {
-    /// A pool with no nodes. It takes the memory of all its tables, about 25 bytes for each node of the limit.
+    /// A pool with no nodes. It takes the memory of all its tables, at most 24 bytes for each node of the limit.
     pub fn new(alloc: Global, limit: u32, vars: u16) -> Result<Pool, NoMemory>
         requires some { 1 ≤ limit }
         requires few { limit ≤ MAX_NODES }
