@@ -59,8 +59,8 @@ faults-set files list counts missing name other i was c e same_list is h at rise
           rw (there, known) (ap (λ x. x.faults) (get_or-set_same counts i c d within) ∙ risen)
       | false ↦ λ t.
           let differ : place files other ≢ i = λ same.
-              let equal : name ≡ other = place-same files name other (omega (arith, i_is)) (same ∙ i_is) in
-              let yes : bytes_eq name other ≡ true = (bytes_eq-Decides name other).1 equal in (cc) in
+          let equal : name ≡ other = place-same files name other (omega (arith, i_is)) (same ∙ i_is) in
+          let yes : bytes_eq name other ≡ true = (bytes_eq-Decides name other).1 equal in (cc) in
           ap (λ x. x.faults) (get_or-set_other counts i (place files other) c d differ)
     ]) refl)
 

@@ -9,6 +9,7 @@ bytes_taken sink = sink.bytes.items
 -- how many bytes it takes in all, and at most in one put
 abbrev pub room_of : MemSink → ℕ
 room_of sink = sink.room
+
 abbrev pub most_of : MemSink → ℕ
 most_of sink = sink.most
 

@@ -4,11 +4,11 @@ ghost use Rattle.outside.specs.Pieces.{IsPart, IsPlace};
 
 use std::alloc::{AllocError, AllocFailed};
 
-/// A file or a sink answered with an error.
+/// A read or a write failed. The count of the shelf's name or of the sink tells that it did.
 #[derive(Clone, Copy, Debug, PartialEq, Eq)]
 pub struct Failed;
 
-/// There is no memory.
+/// There is no memory for what the call needs.
 #[derive(Clone, Copy, Debug, PartialEq, Eq)]
 pub struct NoMemory;
 
@@ -25,20 +25,24 @@ impl<T: Drop> From<AllocFailed<T>> for NoMemory {
 }
 
 /// Files under names, each read piece by piece.
+///
+/// A failure under one name licenses no answer about another file: it is counted under its name.
+/// A count stands still at the greatest `u64`.
 pub trait Shelf {
-    /// The bytes of a file, where the shelf tells them.
+    /// The bytes of a file, where the shelf tells them. They never change.
     ghost holds: { Self → List ℕ → Option (List ℕ) };
 
-    /// How often a read under a name failed.
+    /// How often a read under a name failed. It never falls.
     ghost faults: { Self → List ℕ → ℕ };
 
-    /// The place after the bytes that the last read gave.
+    /// The place after the bytes that the last read gave: 0 at first and after a failure.
     ghost next: { Self → ℕ };
 
-    /// How many bytes were given under a name.
+    /// How many bytes were given under a name. It never falls.
     ghost given: { Self → List ℕ → ℕ };
 
-    /// Reads the bytes of a file from a place on into the front of `buf`. `Ok(0)` is the end.
+    /// Reads the bytes of a file from a place on into the front of `buf`, and answers how many.
+    /// `Ok(0)` is the end. A read begins at place 0, or goes on where the last one ended.
     fn part(&mut self, name: &str, from: u64, buf: &mut [u8]) -> Result<usize, Failed>
         requires room { 0 < length buf.old }
         requires place { IsPlace from (next self.old) }
@@ -57,13 +61,13 @@ pub trait Shelf {
 
 /// Takes bytes, piece by piece.
 pub trait Sink {
-    /// The bytes so far, where the sink tells them.
+    /// The bytes so far, where the sink tells them. A failed put leaves them as they were.
     ghost got: { Self → Option (List ℕ) };
 
-    /// How often a put failed.
+    /// How often a put failed. It never falls.
     ghost faults: { Self → ℕ };
 
-    /// Takes a front of `piece`, and answers how many bytes.
+    /// Takes a front of `piece`, at least one byte, and answers how many.
     fn put(&mut self, piece: &[u8]) -> Result<usize, Failed>
         requires { 0 < length piece.now }
         ensures some { IfOk result (λ n. 0 < n) }

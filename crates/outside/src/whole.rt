@@ -5,13 +5,14 @@ ghost use Rattle.outside.specs.Pieces.{IsPlace, IsFront};
 use crate::shelf::{Failed, Shelf, Sink};
 use std::alloc::{AllocError, Global};
 
-/// Why a file was not read.
+/// Why a file was not read whole.
 #[derive(Clone, Copy, Debug, PartialEq, Eq)]
 pub enum ReadStop {
-    /// A read failed.
+    /// A read of the file failed.
     Failed,
-    /// The file is longer than the limit.
+    /// The file is longer than the limit: `limit + 1` bytes of it were taken.
     TooLong,
+    /// There is no memory for its bytes.
     NoMemory,
 }
 
@@ -70,8 +71,9 @@ fn read_part<S: Shelf>(
     Ok(n)
 }
 
+/// Reads a whole file of at most `limit` bytes, from its first byte to its end. Each read names
+/// this file.
 #[tactic(auto, using(crate::proofs::Laws::read_laws))]
-/// Reads a whole file of at most `limit` bytes.
 pub fn read_whole<S: Shelf>(
     alloc: Global,
     shelf: &mut S,
@@ -104,7 +106,8 @@ pub fn read_whole<S: Shelf>(
     Err(ReadStop::TooLong)
 }
 
-/// Gives all bytes to the sink.
+/// Gives all bytes to the sink, or a prefix of them where a put fails. Each put is given all that is
+/// left.
 #[tactic(auto, using(crate::proofs::Laws::write_laws))]
 pub fn write_whole<O: Sink>(sink: &mut O, bytes: &[u8]) -> Result<(), Failed>
     ensures taken { OnOk result (O.got sink.new ≡ appended (O.got sink.old) bytes.now) }
@@ -119,3 +122,6 @@ pub fn write_whole<O: Sink>(sink: &mut O, bytes: &[u8]) -> Result<(), Failed>
     }
     Ok(())
 }
+
+#[cfg(test)]
+mod tests;
