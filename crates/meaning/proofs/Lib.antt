@@ -25,3 +25,5 @@ pub mod ThinTidy
 pub mod ThinNodes
 pub mod ThinWhole
 pub mod ThinBuild
+pub mod EmptyLists
+pub mod ItemRules
