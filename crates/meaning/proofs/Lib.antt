@@ -27,3 +27,4 @@ pub mod ThinWhole
 pub mod ThinBuild
 pub mod EmptyLists
 pub mod ItemRules
+pub mod ThinLineRules
