@@ -27,4 +27,5 @@ pub mod ThinWhole
 pub mod ThinBuild
 pub mod EmptyLists
 pub mod ItemRules
+pub mod NameTexts
 pub mod ThinLineRules
