@@ -29,3 +29,4 @@ pub mod EmptyLists
 pub mod ItemRules
 pub mod NameTexts
 pub mod ThinLineRules
+pub mod PlainTypes
