@@ -30,3 +30,4 @@ pub mod ItemRules
 pub mod NameTexts
 pub mod ThinLineRules
 pub mod PlainTypes
+pub mod ThinModelRules

@@ -1,0 +1,161 @@
+-- The model of a thin bundle: that it breaks no rule and is thin is what its plain tests say.
+use Rattle.std.proofs.Common.{◌≡◌, refl, sym, ap, ◌∙◌, subst, ℕ, zero, suc, ◌+◌, List, [], ◌∷◌, ◌++◌, map, length, take, Bool, true, false, not, ◌&&◌, ◌||◌, ◌==◌, Option, Some, None, arith}
+use Rattle.std.specs.Prelude.{codes, bytes_eq, nat_le, is_some, option_map, option_and_then, unwrap_or}
+use Rattle.std.specs.List.{list_all, slice_get}
+use Rattle.std.proofs.lemmas.Grind.{common_steps}
+use Rattle.meaning.specs.Texts.{flat, numbered, is_name, place_of}
+use Rattle.meaning.specs.Documents.{Document, as_text, member_of, text_at, list_at, truth_at, texts_in}
+use Rattle.meaning.specs.BundlePlaces.{Part, Types, Kinds, Labels, Elements, Links, Systems, States, Transitions, Owners, BundleFault, Broken, requires, broken_at, where_formed, faults_at, faults_of_items, is_text_value, is_list_value, has, if_there, if_some, needs, may_have, name_in, is_among, are_new, text_within, member_within, text_of_member}
+use Rattle.meaning.specs.ExpressionFaults.{TextFault, expression_fault, place_of_form_fault, place_of_unknown_name}
+use Rattle.meaning.specs.LineRules.{is_within, expression_fault_at, expression_rules}
+use Rattle.meaning.specs.ModelRules.{ModelContext, context_of, items_in, names_in, type_names, type_number, type_at, attributes_of, is_system_type, faults_in_list, faults_in_item, is_new_name, type_has_form, own_attributes, inherited_attributes, type_form, parent_is_earlier, type_rules, kind_has_form, end_types_are_known, kind_form, kind_rules, label_text, label_rules, element_has_form, values_given, element_texts_fit, same_texts, gives_its_attributes, element_form, element_rules, link_rules, system_rules, state_rules, transition_rules, system_elements, has_its_system, faults_in_systems, faults_of_context, model_faults}
+use Rattle.meaning.specs.ThinForm.{none_in, is_thin_type, is_thin_element, model_is_bare, model_is_thin}
+use Rattle.meaning.specs.ThinCases.{thin_type}
+use Rattle.meaning.specs.ThinTests.{empty_or_absent, items_pass, plain_type_passes, kind_passes, element_passes, model_passes}
+use Rattle.meaning.proofs.EmptyLists.{both_true, all_true, absorbed, with_test, nothing_in, nothing_in_both, nothing_in_flat, nothing_at, nothing_required, nothing_there, all_same, all_by, all_numbered}
+use Rattle.meaning.proofs.ItemRules.{is_formed_item, items_pass_both, items_pass_all, item_faults, item_faults_where, form_of_four, form_of_five}
+use Rattle.meaning.proofs.NameTexts.{name_among, name_is_within, name_has_no_fault, place_among}
+use Rattle.meaning.proofs.ThinLineRules.{no_items_no_faults, not_none}
+use Rattle.meaning.proofs.PlainTypes.{absent, empty_list, plain_types, plain_type_names, no_attributes, no_system_type}
+
+-- ---- truth values
+
+and_true : (a : Bool) → (a && true) ≡ a
+and_true true = refl
+and_true false = refl
+
+and_false : (a : Bool) → (a && false) ≡ false
+and_false true = refl
+and_false false = refl
+
+assoc : (a b c : Bool) → ((a && b) && c) ≡ (a && (b && c))
+assoc a b c = grind (arith, common_steps)
+
+two_rules : (r s : ℕ) (a b : Bool) → nothing_in (requires r a ++ requires s b) ≡ (a && b)
+two_rules r s true true = refl
+two_rules r s true false = refl
+two_rules r s false b = refl
+
+-- ---- what a member says
+
+-- a member that is needed as a text
+pub needed_text : (k : List ℕ) (d : Document) → needs is_text_value k d ≡ true → (s : List ℕ) × (text_of_member k d ≡ Some s) × (text_at k d ≡ s)
+needed_text k d e = let r = go (member_of k d) e in (r.0, r.1, ap (λ o. unwrap_or o []) r.1)
+  where
+    told : (o : Option (List ℕ)) → is_some o ≡ true → (s : List ℕ) × (o ≡ Some s)
+    told None e = absurd (let n : false ≡ true = e in cc)
+    told (Some s) e = (s, refl)
+
+    go : (o : Option Document) → (is_some o && if_there is_text_value o) ≡ true → (s : List ℕ) × (option_and_then as_text o ≡ Some s)
+    go None e = absurd (let n : false ≡ true = e in cc)
+    go (Some x) e = told (as_text x) e
+
+-- a member that is one of these names, where it is there
+module _ (names : List (List ℕ)) (named : list_all is_name names ≡ true) where
+  pub no_expression_fault : (o : Option (List ℕ)) → if_some (is_among names) o ≡ true → option_and_then (expression_fault names) o ≡ None
+  no_expression_fault None e = refl
+  no_expression_fault (Some s) e = name_has_no_fault names s (name_among names s named e) e
+
+  short_condition : (o : Option (List ℕ)) → if_some (is_among names) o ≡ true → text_within 4096 (unwrap_or o []) ≡ true
+  short_condition None e = refl
+  short_condition (Some s) e = name_is_within s (name_among names s named e)
+
+-- ---- a list of the model
+
+list_part : (c : ModelContext) (part : Part) (k : List ℕ) (rules : ℕ × Document → List Broken)
+    → nothing_in (faults_in_list c part k rules) ≡ (may_have is_list_value k c.table && nothing_in (faults_of_items part rules (items_in c k)))
+list_part c part k rules =
+    nothing_in_both (faults_at part 0 0 (requires 2 (may_have is_list_value k c.table))) (faults_of_items part rules (items_in c k))
+    ∙ ap (λ b. b && nothing_in (faults_of_items part rules (items_in c k))) (nothing_there part 0 0 2 (may_have is_list_value k c.table))
+
+-- a list with no item
+empty_part : (c : ModelContext) (part : Part) (k : List ℕ) (rules : ℕ × Document → List Broken) → none_in k c.table ≡ true
+    → nothing_in (faults_in_list c part k rules) ≡ empty_or_absent k c.table
+empty_part c part k rules e =
+    list_part c part k rules
+    ∙ ap (λ b. may_have is_list_value k c.table && b) (no_items_no_faults part rules k c.table e ∙ sym e)
+
+-- ---- the lists of a model whose types are plain
+
+module _ (c : ModelContext) (plain : c.types ≡ map thin_type (names_in c (codes "types"))) where
+  type_names_are : type_names c ≡ names_in c (codes "types")
+  type_names_are = ap (map (λ t. t.name)) plain ∙ plain_type_names (names_in c (codes "types"))
+
+  attributes_are : (t : ℕ) → attributes_of c t ≡ []
+  attributes_are t = ap (λ ts. unwrap_or (option_map (λ x. x.attributes) (slice_get ts t)) []) plain ∙ no_attributes (names_in c (codes "types")) t
+
+  no_systems : (t : ℕ) → is_system_type c t ≡ false
+  no_systems t = ap (λ ts. unwrap_or (option_map (λ x. x.has_system) (slice_get ts t)) false) plain ∙ no_system_type (names_in c (codes "types")) t
+
+  -- ---- types
+
+  type_rules_are : (x : ℕ × Document) → is_thin_type x.1 ≡ true
+      → nothing_in (type_rules c x) ≡ (is_formed_item 256 type_has_form (items_in c (codes "types")) x && is_thin_type x.1)
+  unfolding type_rules
+  type_rules_are x e =
+      form_of_four 2 3 5 6 6 (type_has_form x.1) (is_name (name_in x.1) && list_all is_name (own_attributes x.1))
+      (is_new_name (type_names c) x.0 (name_in x.1) && are_new (inherited_attributes c x) (own_attributes x.1))
+      (is_within 256 x.0 && nat_le (length (attributes_of c x.0)) 32) (requires 13 (parent_is_earlier c x))
+      ∙ plain_form (type_has_form x.1) (is_name (name_in x.1)) (list_all is_name (own_attributes x.1))
+      (is_new_name (type_names c) x.0 (name_in x.1)) (are_new (inherited_attributes c x) (own_attributes x.1))
+      (is_within 256 x.0) (nat_le (length (attributes_of c x.0)) 32) (nothing_in (requires 13 (parent_is_earlier c x))) (is_thin_type x.1)
+      (ap (list_all is_name) none_own) (ap (are_new (inherited_attributes c x)) none_own) (ap (λ ys. nat_le (length ys) 32) (attributes_are x.0)) root e
+      ∙ ap (λ ns. type_has_form x.1 && is_name (name_in x.1) && is_new_name ns x.0 (name_in x.1) && is_within 256 x.0 && is_thin_type x.1) type_names_are
+    where
+      first : (not (has (codes "parent") x.1) ≡ true) × (none_in (codes "attributes") x.1 ≡ true)
+      first = both_true _ _ (both_true _ _ e).0
+
+      none_own : own_attributes x.1 ≡ []
+      none_own = ap texts_in (empty_list (list_at (codes "attributes") x.1) first.1)
+
+      root : nothing_in (requires 13 (parent_is_earlier c x)) ≡ true
+      root = nothing_required 13 (parent_is_earlier c x)
+          ∙ ap (λ o. if_some (is_among (take x.0 (type_names c))) (option_and_then as_text o)) (absent (codes "parent") x.1 first.0)
+
+      plain_form : (f n a w b i l p t : Bool) → a ≡ true → b ≡ true → l ≡ true → p ≡ true → t ≡ true
+          → (((f && (n && a)) && (w && b)) && (i && l) && p) ≡ (((f && n) && w) && i && t)
+      plain_form f n a w b i l p t ea eb el ep et = rw (ea, eb, el, ep, et, and_true n, and_true w, and_true i) refl
+
+  types_are : list_all is_thin_type (items_in c (codes "types")) ≡ true
+      → nothing_in (faults_in_list c Types (codes "types") (type_rules c))
+      ≡ (may_have is_list_value (codes "types") c.table && items_pass 256 plain_type_passes (items_in c (codes "types")))
+  types_are all =
+      list_part c Types (codes "types") (type_rules c)
+      ∙ ap (λ b. may_have is_list_value (codes "types") c.table && b)
+      (item_faults_where 256 type_has_form (items_in c (codes "types")) is_thin_type Types (type_rules c) is_thin_type type_rules_are all
+      ∙ sym (items_pass_both 256 type_has_form (items_in c (codes "types")) is_thin_type)
+      ∙ ap (λ b. b && list_all is_name (names_in c (codes "types")) && are_new [] (names_in c (codes "types")) && nat_le (length (items_in c (codes "types"))) 256)
+      (all_same (λ d. type_has_form d && is_thin_type d) plain_type_passes plain_form (items_in c (codes "types"))))
+    where
+      turned : (f a b s : Bool) → (f && ((a && b) && s)) ≡ (((f && a) && b) && s)
+      turned f a b s = grind (arith, common_steps)
+
+      plain_form : (d : Document) → (type_has_form d && is_thin_type d) ≡ plain_type_passes d
+      plain_form d = turned (type_has_form d) (not (has (codes "parent") d)) (none_in (codes "attributes") d) (not (truth_at (codes "system") d))
+
+  -- ---- link kinds
+
+  kinds_are : nothing_in (faults_in_list c Kinds (codes "kinds") (kind_rules c))
+      ≡ (may_have is_list_value (codes "kinds") c.table && items_pass 256 (kind_passes (names_in c (codes "types"))) (items_in c (codes "kinds")))
+  unfolding kind_rules
+  kinds_are =
+      list_part c Kinds (codes "kinds") (kind_rules c)
+      ∙ ap (λ b. may_have is_list_value (codes "kinds") c.table && b)
+      (item_faults 256 kind_has_form (items_in c (codes "kinds")) Kinds (kind_rules c) (λ x. ends x.1) each
+      ∙ ap (λ b. items_pass 256 kind_has_form (items_in c (codes "kinds")) && b) (all_numbered ends 0 (items_in c (codes "kinds")))
+      ∙ sym (items_pass_both 256 kind_has_form (items_in c (codes "kinds")) ends)
+      ∙ ap (λ b. b && list_all is_name (names_in c (codes "kinds")) && are_new [] (names_in c (codes "kinds")) && nat_le (length (items_in c (codes "kinds"))) 256)
+      (all_same (λ d. kind_has_form d && ends d) (kind_passes (names_in c (codes "types")))
+      (λ d. sym (assoc (kind_has_form d) (is_among (names_in c (codes "types")) (text_at (codes "from") d)) (is_among (names_in c (codes "types")) (text_at (codes "to") d))))
+      (items_in c (codes "kinds"))))
+    where
+      ends : Document → Bool
+      ends d = is_among (names_in c (codes "types")) (text_at (codes "from") d) && is_among (names_in c (codes "types")) (text_at (codes "to") d)
+
+      each : (x : ℕ × Document) → nothing_in (kind_rules c x) ≡ (is_formed_item 256 kind_has_form (items_in c (codes "kinds")) x && ends x.1)
+      each x =
+          form_of_four 2 3 5 6 6 (kind_has_form x.1) (is_name (name_in x.1)) (is_new_name (names_in c (codes "kinds")) x.0 (name_in x.1)) (is_within 256 x.0)
+          (requires 14 (end_types_are_known c x.1))
+          ∙ ap (λ b. is_formed_item 256 kind_has_form (items_in c (codes "kinds")) x && b)
+          (nothing_required 14 (end_types_are_known c x.1)
+          ∙ ap (λ ns. is_among ns (text_at (codes "from") x.1) && is_among ns (text_at (codes "to") x.1)) type_names_are)
