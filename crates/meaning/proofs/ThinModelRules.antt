@@ -159,3 +159,213 @@ module _ (c : ModelContext) (plain : c.types ≡ map thin_type (names_in c (code
           ∙ ap (λ b. is_formed_item 256 kind_has_form (items_in c (codes "kinds")) x && b)
           (nothing_required 14 (end_types_are_known c x.1)
           ∙ ap (λ ns. is_among ns (text_at (codes "from") x.1) && is_among ns (text_at (codes "to") x.1)) type_names_are)
+
+  -- ---- elements
+
+  type_text_read : (d : Document) → element_has_form d ≡ true → (s : List ℕ) × (text_of_member (codes "type") d ≡ Some s) × (text_at (codes "type") d ≡ s)
+  type_text_read d e = needed_text (codes "type") d (both_true _ _ (both_true _ _ (both_true _ _ e).0).0).1
+
+  none_given : (xs : List (List ℕ × Document)) → list_all (is_among []) (map (λ e. e.0) xs) ≡ (length xs == 0)
+  none_given [] = refl
+  none_given (x ∷ xs) = sym (not_none (length xs))
+
+  -- of a known type, which has no attributes
+  gives_none : (d : Document) → element_has_form d ≡ true → is_among (names_in c (codes "types")) (text_at (codes "type") d) ≡ true
+      → gives_its_attributes c d ≡ (length (values_given d) == 0)
+  gives_none d form known =
+      let s = type_text_read d form in
+      let among : is_among (names_in c (codes "types")) s.0 ≡ true = ap (is_among (names_in c (codes "types"))) (sym s.2) ∙ known in
+      let place = place_among (names_in c (codes "types")) s.0 among in
+      let of_type : type_at c (codes "type") d ≡ Some place.0
+          = ap (option_and_then (type_number c)) s.1 ∙ ap (place_of s.0) type_names_are ∙ place.1 in
+      ap (if_some (λ t. same_texts (attributes_of c t) (map (λ e. e.0) (values_given d)))) of_type
+      ∙ ap (λ ys. same_texts ys (map (λ e. e.0) (values_given d))) (attributes_are place.0)
+      ∙ none_given (values_given d)
+
+  -- an element has no system that it needs
+  needs_no_system : (d : Document) → has_its_system c d ≡ true
+  needs_no_system d = go (type_at c (codes "type") d)
+    where
+      go : (o : Option ℕ) → if_some (λ t. not (is_system_type c t) || is_among (system_elements c) (name_in d)) o ≡ true
+      go None = refl
+      go (Some t) = ap (λ b. not b || is_among (system_elements c) (name_in d)) (no_systems t)
+
+  owners_are : nothing_in (faults_of_items Owners (λ e. requires 20 (has_its_system c e.1)) (items_in c (codes "elements"))) ≡ true
+  owners_are =
+      nothing_in_flat (λ x. faults_at Owners x.0 0 (requires 20 (has_its_system c x.1))) (numbered (items_in c (codes "elements")))
+      ∙ all_always (λ x. nothing_in (faults_at Owners x.0 0 (requires 20 (has_its_system c x.1))))
+      (λ x. nothing_there Owners x.0 0 20 (has_its_system c x.1) ∙ needs_no_system x.1) (numbered (items_in c (codes "elements")))
+    where
+      all_always : {A : Type 0} (p : A → Bool) → ((x : A) → p x ≡ true) → (xs : List A) → list_all p xs ≡ true
+      all_always p h [] = refl
+      all_always p h (x ∷ xs) = rw (h x, all_always p h xs) refl
+
+  module _ (named : list_all is_name c.features ≡ true) where
+    -- its type is known, and it gives no attributes
+    abbrev known_and_bare : Document → Bool
+    known_and_bare d = is_among (names_in c (codes "types")) (text_at (codes "type") d) && (length (values_given d) == 0)
+
+    element_rules_are : (x : ℕ × Document) → is_thin_element c.features x.1 ≡ true
+        → nothing_in (element_rules c x) ≡ (is_formed_item 2048 element_has_form (items_in c (codes "elements")) x && (is_thin_element c.features x.1 && known_and_bare x.1))
+    unfolding element_rules
+    element_rules_are x e =
+        form_of_five 2 3 4 5 6 (element_has_form x.1) (is_name (name_in x.1)) (element_texts_fit x.1)
+        (is_new_name (names_in c (codes "elements")) x.0 (name_in x.1)) (is_within 2048 x.0)
+        (expression_rules c.features (codes "when") x.1 ++ requires 15 (is_among (type_names c) (text_at (codes "type") x.1)) ++ requires 16 (gives_its_attributes c x.1))
+        ∙ ap (λ b. element_has_form x.1 && is_name (name_in x.1) && element_texts_fit x.1 && is_new_name (names_in c (codes "elements")) x.0 (name_in x.1) && is_within 2048 x.0 && b) after_form
+        ∙ plain_form (element_has_form x.1) (is_name (name_in x.1)) (member_within 4096 (codes "when") x.1)
+        (list_all (λ v. text_within 128 (label_text v.1)) (values_given x.1))
+        (is_new_name (names_in c (codes "elements")) x.0 (name_in x.1)) (is_within 2048 x.0)
+        (is_among (names_in c (codes "types")) (text_at (codes "type") x.1)) (gives_its_attributes c x.1) (length (values_given x.1) == 0) (is_thin_element c.features x.1)
+        (short_condition c.features named (text_of_member (codes "when") x.1) e) e
+        (gives_none x.1) (no_long_values (values_given x.1))
+      where
+        after_form : nothing_in (expression_rules c.features (codes "when") x.1 ++ requires 15 (is_among (type_names c) (text_at (codes "type") x.1)) ++ requires 16 (gives_its_attributes c x.1))
+            ≡ (is_among (names_in c (codes "types")) (text_at (codes "type") x.1) && gives_its_attributes c x.1)
+        after_form =
+            ap (λ o. nothing_in (broken_at 11 (place_of_form_fault o) ++ broken_at 12 (place_of_unknown_name o)
+            ++ requires 15 (is_among (type_names c) (text_at (codes "type") x.1)) ++ requires 16 (gives_its_attributes c x.1)))
+            (no_expression_fault c.features named (text_of_member (codes "when") x.1) e)
+            ∙ two_rules 15 16 (is_among (type_names c) (text_at (codes "type") x.1)) (gives_its_attributes c x.1)
+            ∙ ap (λ ns. is_among ns (text_at (codes "type") x.1) && gives_its_attributes c x.1) type_names_are
+
+        no_long_values : (vs : List (List ℕ × Document)) → (length vs == 0) ≡ true → list_all (λ v. text_within 128 (label_text v.1)) vs ≡ true
+        no_long_values [] h = refl
+        no_long_values (v ∷ vs) h = absurd (let n = not_none (length vs) in cc)
+
+        plain_form : (f n w1 v w i k a l t : Bool) → w1 ≡ true → t ≡ true → (f ≡ true → k ≡ true → a ≡ l) → (l ≡ true → v ≡ true)
+            → ((((f && n) && (w1 && v)) && w) && i && (k && a)) ≡ (((f && n) && w) && i && (t && (k && l)))
+        plain_form false n w1 v w i k a l t ew et h g = refl
+        plain_form true n w1 v w i false a l t ew et h g = rw (et) (and_false (((n && (w1 && v)) && w) && i) ∙ sym (and_false ((n && w) && i)))
+        plain_form true n w1 v w i true a false t ew et h g = rw (et, h refl refl) (and_false (((n && (w1 && v)) && w) && i) ∙ sym (and_false ((n && w) && i)))
+        plain_form true n w1 v w i true a true t ew et h g = rw (et, h refl refl, ew, g refl, and_true n) refl
+
+    elements_are : list_all (is_thin_element c.features) (items_in c (codes "elements")) ≡ true
+        → nothing_in (faults_in_list c Elements (codes "elements") (element_rules c))
+        ≡ (may_have is_list_value (codes "elements") c.table
+        && items_pass 2048 (element_passes c.features (names_in c (codes "types"))) (items_in c (codes "elements")))
+    elements_are all =
+        list_part c Elements (codes "elements") (element_rules c)
+        ∙ ap (λ b. may_have is_list_value (codes "elements") c.table && b)
+        (item_faults_where 2048 element_has_form (items_in c (codes "elements")) (is_thin_element c.features) Elements (element_rules c)
+        (λ d. is_thin_element c.features d && known_and_bare d) element_rules_are all
+        ∙ sym (items_pass_both 2048 element_has_form (items_in c (codes "elements")) (λ d. is_thin_element c.features d && known_and_bare d))
+        ∙ ap (λ b. b && list_all is_name (names_in c (codes "elements")) && are_new [] (names_in c (codes "elements")) && nat_le (length (items_in c (codes "elements"))) 2048)
+        (all_same (λ d. element_has_form d && (is_thin_element c.features d && known_and_bare d)) (element_passes c.features (names_in c (codes "types"))) plain_form (items_in c (codes "elements"))))
+      where
+        turned : (f t k l : Bool) → (f && (t && (k && l))) ≡ (((f && t) && k) && l)
+        turned f t k l = grind (arith, common_steps)
+
+        plain_form : (d : Document) → (element_has_form d && (is_thin_element c.features d && known_and_bare d)) ≡ element_passes c.features (names_in c (codes "types")) d
+        plain_form d = turned (element_has_form d) (is_thin_element c.features d) (is_among (names_in c (codes "types")) (text_at (codes "type") d)) (length (values_given d) == 0)
+
+-- no system, so nothing inside one
+no_systems_inside : (c : ModelContext) (faults : ℕ × Document → List BundleFault) → none_in (codes "systems") c.table ≡ true
+    → nothing_in (faults_in_systems c faults) ≡ true
+no_systems_inside c faults e = ap (λ ds. nothing_in (flat faults (numbered ds))) (empty_list (list_at (codes "systems") c.table) e)
+
+-- ---- the whole model
+
+-- what a thin model has and has not
+pub record BareParts (features : List (List ℕ)) (m : Document) : Type 0 where
+  pub types : list_all is_thin_type (list_at (codes "types") m) ≡ true
+  pub labels : none_in (codes "labels") m ≡ true
+  pub links : none_in (codes "links") m ≡ true
+  pub systems : none_in (codes "systems") m ≡ true
+  pub elements : list_all (is_thin_element features) (list_at (codes "elements") m) ≡ true
+
+pub bare_parts : (features : List (List ℕ)) (m : Document) → model_is_thin features m ≡ true → BareParts features m
+bare_parts features m e =
+    let by_elements = both_true _ _ e in
+    let by_systems = both_true _ _ by_elements.0 in
+    let by_links = both_true _ _ by_systems.0 in
+    let by_labels = both_true _ _ by_links.0 in
+    record { types = by_labels.0; labels = by_labels.1; links = by_links.1; systems = by_systems.1; elements = by_elements.1 }
+
+passing_type : (d : Document) → plain_type_passes d ≡ true → is_thin_type d ≡ true
+passing_type d e = rest (type_has_form d) (not (has (codes "parent") d)) (none_in (codes "attributes") d) (not (truth_at (codes "system") d)) e
+  where
+    rest : (f a b s : Bool) → (((f && a) && b) && s) ≡ true → ((a && b) && s) ≡ true
+    rest f a b s e = grind (arith, common_steps)
+
+passing_element : (features types : List (List ℕ)) (d : Document) → element_passes features types d ≡ true → is_thin_element features d ≡ true
+passing_element features types d e =
+    second (element_has_form d) (is_thin_element features d) (is_among types (text_at (codes "type") d)) (length (values_given d) == 0) e
+  where
+    second : (f t k l : Bool) → (((f && t) && k) && l) ≡ true → t ≡ true
+    second f t k l e = grind (arith, common_steps)
+
+module _ (features : List (List ℕ)) (m : Document) (named : list_all is_name features ≡ true) where
+  where_thin : model_is_thin features m ≡ true → nothing_in (faults_of_context (context_of features m)) ≡ model_passes features m
+  where_thin e =
+      nine (faults_in_list c Types (codes "types") (type_rules c)) (faults_in_list c Kinds (codes "kinds") (kind_rules c))
+      (faults_in_list c Labels (codes "labels") (label_rules c)) (faults_in_list c Elements (codes "elements") (element_rules c))
+      (faults_in_list c Links (codes "links") (link_rules c)) (faults_in_list c Systems (codes "systems") (system_rules c))
+      (faults_in_systems c (λ x. faults_in_item States (codes "states") (state_rules c x) x))
+      (faults_in_systems c (λ x. faults_in_item Transitions (codes "transitions") (transition_rules c x) x))
+      (faults_of_items Owners (λ e. requires 20 (has_its_system c e.1)) (items_in c (codes "elements")))
+      ∙ rw (types_are c plain thin_types, kinds_are c plain, elements_are c plain named thin_elements, owners_are c plain,
+        empty_part c Labels (codes "labels") (label_rules c) no_labels, empty_part c Links (codes "links") (link_rules c) no_links,
+        empty_part c Systems (codes "systems") (system_rules c) none,
+        no_systems_inside c (λ x. faults_in_item States (codes "states") (state_rules c x) x) none,
+        no_systems_inside c (λ x. faults_in_item Transitions (codes "transitions") (transition_rules c x) x) none)
+      (joined (may_have is_list_value (codes "types") m) (items_pass 256 plain_type_passes (list_at (codes "types") m))
+      (may_have is_list_value (codes "kinds") m) (items_pass 256 (kind_passes (map name_in (list_at (codes "types") m))) (list_at (codes "kinds") m))
+      (empty_or_absent (codes "labels") m)
+      (may_have is_list_value (codes "elements") m) (items_pass 2048 (element_passes features (map name_in (list_at (codes "types") m))) (list_at (codes "elements") m))
+      (empty_or_absent (codes "links") m) (empty_or_absent (codes "systems") m))
+    where
+      c : ModelContext
+      c = context_of features m
+
+      parts : BareParts features m
+      parts = bare_parts features m e
+
+      thin_elements : list_all (is_thin_element features) (list_at (codes "elements") m) ≡ true
+      thin_elements = parts.elements
+
+      none : none_in (codes "systems") m ≡ true
+      none = parts.systems
+
+      no_links : none_in (codes "links") m ≡ true
+      no_links = parts.links
+
+      no_labels : none_in (codes "labels") m ≡ true
+      no_labels = parts.labels
+
+      thin_types : list_all is_thin_type (list_at (codes "types") m) ≡ true
+      thin_types = parts.types
+
+      plain : c.types ≡ map thin_type (names_in c (codes "types"))
+      plain = plain_types (list_at (codes "types") m) (map name_in (list_at (codes "types") m)) thin_types
+
+      nine : {A : Type 0} (x1 x2 x3 x4 x5 x6 x7 x8 x9 : List A) → nothing_in (x1 ++ x2 ++ x3 ++ x4 ++ x5 ++ x6 ++ x7 ++ x8 ++ x9)
+          ≡ (nothing_in x1 && nothing_in x2 && nothing_in x3 && nothing_in x4 && nothing_in x5 && nothing_in x6 && nothing_in x7 && nothing_in x8 && nothing_in x9)
+      nine x1 x2 x3 x4 x5 x6 x7 x8 x9 =
+          rw (nothing_in_both (x1 ++ x2 ++ x3 ++ x4 ++ x5 ++ x6 ++ x7 ++ x8) x9, nothing_in_both (x1 ++ x2 ++ x3 ++ x4 ++ x5 ++ x6 ++ x7) x8,
+            nothing_in_both (x1 ++ x2 ++ x3 ++ x4 ++ x5 ++ x6) x7, nothing_in_both (x1 ++ x2 ++ x3 ++ x4 ++ x5) x6, nothing_in_both (x1 ++ x2 ++ x3 ++ x4) x5,
+            nothing_in_both (x1 ++ x2 ++ x3) x4, nothing_in_both (x1 ++ x2) x3, nothing_in_both x1 x2) refl
+
+      joined : (mt it mk ik l me ie li s : Bool) → ((((((((mt && it) && (mk && ik)) && l) && (me && ie)) && li) && s) && true) && true && true)
+          ≡ ((((((((mt && it) && mk) && ik) && me) && ie) && l) && li) && s)
+      joined mt it mk ik l me ie li s = grind (arith, common_steps)
+
+  thin_where_passes : model_passes features m ≡ true → model_is_thin features m ≡ true
+  thin_where_passes e =
+      let by_systems = both_true _ _ e in
+      let by_links = both_true _ _ by_systems.0 in
+      let by_labels = both_true _ _ by_links.0 in
+      let by_elements = both_true _ _ by_labels.0 in
+      let by_kinds = both_true _ _ (both_true _ _ by_elements.0).0 in
+      let by_types = both_true _ _ (both_true _ _ by_kinds.0).0 in
+      let types : list_all is_thin_type (list_at (codes "types") m) ≡ true
+          = all_by plain_type_passes is_thin_type passing_type (list_at (codes "types") m)
+          (items_pass_all 256 plain_type_passes (list_at (codes "types") m) by_types.1) in
+      let elements : list_all (is_thin_element features) (list_at (codes "elements") m) ≡ true
+          = all_by (element_passes features (map name_in (list_at (codes "types") m))) (is_thin_element features) (passing_element features (map name_in (list_at (codes "types") m))) (list_at (codes "elements") m)
+          (items_pass_all 2048 (element_passes features (map name_in (list_at (codes "types") m))) (list_at (codes "elements") m) by_elements.1) in
+      all_true _ _ (all_true _ _ (all_true _ _ (all_true _ _ types (both_true _ _ by_labels.1).1) (both_true _ _ by_links.1).1) (both_true _ _ by_systems.1).1) elements
+
+  pub model_is_thin_model : (nothing_in (faults_of_context (context_of features m)) && model_is_thin features m) ≡ model_passes features m
+  model_is_thin_model =
+      with_test (nothing_in (faults_of_context (context_of features m))) (model_is_thin features m) (model_passes features m) where_thin thin_where_passes
