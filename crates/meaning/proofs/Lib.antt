@@ -31,3 +31,4 @@ pub mod NameTexts
 pub mod ThinLineRules
 pub mod PlainTypes
 pub mod ThinModelRules
+pub mod ThinGoalRules
