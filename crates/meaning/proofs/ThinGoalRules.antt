@@ -163,3 +163,145 @@ module _ (c : NodeContext) (g : Document) (first : c.nodes_before ≡ 0) where
         where
           rest : (f i t m h k u x r : Bool) → ((((((((f && i) && t) && m) && h) && k) && u) && x) && r) ≡ true → (((k && x) && r) && h) ≡ true
           rest f i t m h k u x r e = grind (arith, common_steps)
+
+-- ---- the lists of nodes and templates
+
+and_false : (a : Bool) → (a && false) ≡ false
+and_false true = refl
+and_false false = refl
+
+and_true : (a : Bool) → (a && true) ≡ a
+and_true true = refl
+and_true false = refl
+
+same_last : (a b g : Bool) → (g ≡ true → a ≡ b) → (a && g) ≡ (b && g)
+same_last a b true h = rw (h refl) refl
+same_last a b false h = and_false a ∙ sym (and_false b)
+
+-- a list with an item is a member that is a list
+pub listed_member : (k : List ℕ) (d : Document) → (length (list_at k d) == 0) ≡ false
+    → (needs is_list_value k d ≡ true) × (may_have is_list_value k d ≡ true)
+listed_member k d e = go (member_of k d) e
+  where
+    told : (o : Option (List Document)) → (length (unwrap_or o []) == 0) ≡ false → is_some o ≡ true
+    told None e = sym e
+    told (Some ds) e = refl
+
+    go : (o : Option Document) → (length (unwrap_or (option_and_then as_list o) []) == 0) ≡ false
+        → ((is_some o && if_there is_list_value o) ≡ true) × (if_there is_list_value o ≡ true)
+    go None e = absurd (let n : true ≡ false = e in cc)
+    go (Some x) e = (told (as_list x) e, told (as_list x) e)
+
+nodes_are : (c : NodeContext) → c.nodes_before ≡ 0 → (ns : List Document)
+    → (nothing_in (faults_of_items_in Nodes 0 (node_rules c) ns) && is_one_goal ns) ≡ one_goal_passes ns
+nodes_are c first [] = refl
+nodes_are c first (g ∷ []) =
+    ap (λ b. b && (is_plain_goal g && has_no_holes g))
+    (nothing_in_both (faults_at Nodes 0 0 (node_rules c (0, g))) [] ∙ and_true (nothing_in (faults_at Nodes 0 0 (node_rules c (0, g)))) ∙ nothing_at Nodes 0 0 (node_rules c (0, g)))
+    ∙ goal_is_plain_goal c g first
+nodes_are c first (g ∷ h ∷ hs) = and_false (nothing_in (faults_of_items_in Nodes 0 (node_rules c) (g ∷ h ∷ hs)))
+
+some_node : (ns : List Document) → one_goal_passes ns ≡ true → (length ns == 0) ≡ false
+some_node [] e = absurd (let n : false ≡ true = e in cc)
+some_node (g ∷ gs) e = not_none (length gs)
+
+module _ (m : Model) (t : Document) where
+  no_parameter_faults : none_in (codes "params") t ≡ true → nothing_in (faults_of_items_in Params 0 (parameter_rules m t) (list_at (codes "params") t)) ≡ true
+  no_parameter_faults e = ap (λ ds. nothing_in (faults_of_items_in Params 0 (parameter_rules m t) ds)) (empty_list (list_at (codes "params") t) e)
+
+  -- the rules of the one template itself
+  template_is : nothing_in (faults_of_items Templates (template_rules (t ∷ [])) (t ∷ []))
+      ≡ ((template_has_form t && is_name (name_in t)) && (none_in (codes "params") t && has_nodes t))
+  unfolding template_rules
+  template_is =
+      nothing_in_both (faults_at Templates 0 0 (template_rules (t ∷ []) (0, t))) []
+      ∙ and_true (nothing_in (faults_at Templates 0 0 (template_rules (t ∷ []) (0, t))))
+      ∙ nothing_at Templates 0 0 (template_rules (t ∷ []) (0, t))
+      ∙ form_of_four 2 3 5 6 6 (template_has_form t) (is_name (name_in t)) true true (requires 23 (last_has_no_parameters (t ∷ []) (0, t)) ++ requires 24 (has_nodes t))
+      ∙ ap (λ b. (((template_has_form t && is_name (name_in t)) && true) && true) && b) (two (last_has_no_parameters (t ∷ []) (0, t)) (has_nodes t))
+      ∙ only (template_has_form t && is_name (name_in t)) (none_in (codes "params") t && has_nodes t)
+    where
+      two : (a b : Bool) → nothing_in (requires 23 a ++ requires 24 b) ≡ (a && b)
+      two true true = refl
+      two true false = refl
+      two false b = refl
+
+      only : (a b : Bool) → (((a && true) && true) && b) ≡ (a && b)
+      only true b = refl
+      only false b = refl
+
+  item_part : (part : Part) (k : List ℕ) (rules : ℕ × Document → List Broken)
+      → nothing_in (flat (λ x. faults_in_item part k rules x) ((0, t) ∷ [])) ≡ (may_have is_list_value k t && nothing_in (faults_of_items_in part 0 rules (list_at k t)))
+  item_part part k rules =
+      nothing_in_both (faults_in_item part k rules (0, t)) [] ∙ and_true (nothing_in (faults_in_item part k rules (0, t)))
+      ∙ nothing_in_both (faults_at part 0 0 (requires 2 (may_have is_list_value k t))) (faults_of_items_in part 0 rules (list_at k t))
+      ∙ ap (λ b. b && nothing_in (faults_of_items_in part 0 rules (list_at k t))) (nothing_there part 0 0 2 (may_have is_list_value k t))
+
+  -- the one template, with its parameters and nodes
+  pub one_template_is :
+      ((nothing_in (faults_of_items Templates (template_rules (t ∷ [])) (t ∷ []))
+      && nothing_in (flat (λ x. faults_in_item Params (codes "params") (parameter_rules m x.1) x) ((0, t) ∷ []))
+      && nothing_in (flat (node_faults m (t ∷ [])) ((0, t) ∷ [])))
+      && is_one_goal (list_at (codes "nodes") t)) ≡ template_passes t
+  one_template_is =
+      rw (template_is, item_part Params (codes "params") (parameter_rules m t), item_part Nodes (codes "nodes") (node_rules (context_of m (t ∷ []) (0, t))))
+      (turned (template_has_form t && is_name (name_in t)) (none_in (codes "params") t) (has_nodes t) (may_have is_list_value (codes "params") t)
+      (nothing_in (faults_of_items_in Params 0 (parameter_rules m t) (list_at (codes "params") t)))
+      (may_have is_list_value (codes "nodes") t) (nothing_in (faults_of_items_in Nodes 0 (node_rules (context_of m (t ∷ []) (0, t))) (list_at (codes "nodes") t)))
+      (is_one_goal (list_at (codes "nodes") t))
+      ∙ ap (λ b. ((template_has_form t && is_name (name_in t)) && (may_have is_list_value (codes "params") t && b) && (has_nodes t && may_have is_list_value (codes "nodes") t))
+      && (nothing_in (faults_of_items_in Nodes 0 (node_rules (context_of m (t ∷ []) (0, t))) (list_at (codes "nodes") t)) && is_one_goal (list_at (codes "nodes") t)))
+      (absorbed (nothing_in (faults_of_items_in Params 0 (parameter_rules m t) (list_at (codes "params") t))) (none_in (codes "params") t) no_parameter_faults)
+      ∙ ap (λ b. ((template_has_form t && is_name (name_in t)) && empty_or_absent (codes "params") t && (has_nodes t && may_have is_list_value (codes "nodes") t)) && b)
+      (nodes_are (context_of m (t ∷ []) (0, t)) refl (list_at (codes "nodes") t))
+      ∙ same_last ((template_has_form t && is_name (name_in t)) && empty_or_absent (codes "params") t && (has_nodes t && may_have is_list_value (codes "nodes") t))
+      ((template_has_form t && is_name (name_in t)) && empty_or_absent (codes "params") t && needs is_list_value (codes "nodes") t)
+      (one_goal_passes (list_at (codes "nodes") t))
+      (λ e. let some = some_node (list_at (codes "nodes") t) e in let listed = listed_member (codes "nodes") t some in
+      ap (λ b. (template_has_form t && is_name (name_in t)) && empty_or_absent (codes "params") t && b)
+      (same (may_have is_list_value (codes "nodes") t) (length (list_at (codes "nodes") t) == 0) (needs is_list_value (codes "nodes") t) listed.1 some listed.0)))
+    where
+      turned : (f n h a p y i o : Bool) → (((f && (n && h)) && (a && p) && (y && i)) && o) ≡ ((f && (a && (p && n)) && (h && y)) && (i && o))
+      turned f n h a p y i o = grind (arith, common_steps)
+
+      same : (y l n : Bool) → y ≡ true → l ≡ false → n ≡ true → ((not y || not l) && y) ≡ n
+      same y l n ey el en = rw (ey, el, en) refl
+
+-- ---- all templates
+
+module _ (m : Model) (d : Document) where
+  -- the faults of templates, over the list
+  abbrev faults_over : List Document → List BundleFault
+  faults_over ts =
+      faults_at Templates 0 0 (requires 2 (may_have is_list_value (codes "templates") d)
+      ++ requires 23 (not (may_have is_list_value (codes "templates") d) || not (length ts == 0)))
+      ++ faults_of_items Templates (template_rules ts) ts
+      ++ flat (λ t. faults_in_item Params (codes "params") (parameter_rules m t.1) t) (numbered ts)
+      ++ flat (node_faults m ts) (numbered ts)
+
+  templates_over : (ts : List Document) → ((length ts == 0) ≡ false → (needs is_list_value (codes "templates") d ≡ true) × (may_have is_list_value (codes "templates") d ≡ true))
+      → (nothing_in (faults_over ts) && only_template is_one_goal ts) ≡ (needs is_list_value (codes "templates") d && one_template_passes ts)
+  templates_over [] h = and_false (nothing_in (faults_over [])) ∙ sym (and_false (needs is_list_value (codes "templates") d))
+  templates_over (t ∷ u ∷ us) h = and_false (nothing_in (faults_over (t ∷ u ∷ us))) ∙ sym (and_false (needs is_list_value (codes "templates") d))
+  templates_over (t ∷ []) h =
+      ap (λ b. b && is_one_goal (list_at (codes "nodes") t))
+      (four (faults_at Templates 0 0 (requires 2 (may_have is_list_value (codes "templates") d) ++ requires 23 (not (may_have is_list_value (codes "templates") d) || not (length (t ∷ []) == 0))))
+      (faults_of_items Templates (template_rules (t ∷ [])) (t ∷ []))
+      (flat (λ t. faults_in_item Params (codes "params") (parameter_rules m t.1) t) ((0, t) ∷ []))
+      (flat (node_faults m (t ∷ [])) ((0, t) ∷ [])))
+      ∙ ap (λ b. (((b && nothing_in (faults_of_items Templates (template_rules (t ∷ [])) (t ∷ [])))
+      && nothing_in (flat (λ t. faults_in_item Params (codes "params") (parameter_rules m t.1) t) ((0, t) ∷ [])))
+      && nothing_in (flat (node_faults m (t ∷ [])) ((0, t) ∷ []))) && is_one_goal (list_at (codes "nodes") t)) list_is
+      ∙ one_template_is m t
+      ∙ ap (λ b. b && template_passes t) (sym (h (not_none 0)).0)
+    where
+      four : (xs ys zs us : List BundleFault) → nothing_in (xs ++ ys ++ zs ++ us) ≡ (((nothing_in xs && nothing_in ys) && nothing_in zs) && nothing_in us)
+      four xs ys zs us = rw (nothing_in_both (xs ++ ys ++ zs) us, nothing_in_both (xs ++ ys) zs, nothing_in_both xs ys) refl
+
+      list_is : nothing_in (faults_at Templates 0 0 (requires 2 (may_have is_list_value (codes "templates") d) ++ requires 23 (not (may_have is_list_value (codes "templates") d) || not (length (t ∷ []) == 0)))) ≡ true
+      list_is = rw ((h (not_none 0)).1) refl
+
+  pub templates_are_one_goal : (nothing_in (template_faults m d) && only_template is_one_goal (templates_in d))
+      ≡ (needs is_list_value (codes "templates") d && one_template_passes (templates_in d))
+  unfolding template_faults
+  templates_are_one_goal = templates_over (templates_in d) (listed_member (codes "templates") d)
