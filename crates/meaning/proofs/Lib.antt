@@ -32,3 +32,4 @@ pub mod ThinLineRules
 pub mod PlainTypes
 pub mod ThinModelRules
 pub mod ThinGoalRules
+pub mod ThinRules
