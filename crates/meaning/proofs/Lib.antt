@@ -33,3 +33,4 @@ pub mod PlainTypes
 pub mod ThinModelRules
 pub mod ThinGoalRules
 pub mod ThinRules
+pub mod ThinDocuments

@@ -23,7 +23,7 @@ use Rattle.meaning.proofs.PlainTypes.{absent, empty_list, not_true}
 
 -- ---- a text with no brace has no hole
 
-plain_mark : (c : ℕ) → no_brace c ≡ true → mark_of c ≡ byte c
+pub plain_mark : (c : ℕ) → no_brace c ≡ true → mark_of c ≡ byte c
 plain_mark c e =
     let parts = both_true (not (c == 123)) (not (c == 125)) e in rw (not_true (c == 123) parts.0, not_true (c == 125) parts.1) refl
 
