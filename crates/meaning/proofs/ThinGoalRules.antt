@@ -45,6 +45,26 @@ goal_kind : (k : KindWord) → is_goal k ≡ true → k ≡ a_goal
 goal_kind a_goal e = refl
 goal_kind _ e = absurd (let n : false ≡ true = e in cc)
 
+-- the tests of a goal say that it is plain, stands under nothing and has no hole
+pub passing_goal : (g : Document) → goal_passes g ≡ true → (is_plain_goal g ≡ true) × ((not (has (codes "under") g) ≡ true) × (has_no_holes g ≡ true))
+passing_goal g e =
+    let first = plain (node_has_form g) (is_name (id_in g)) (has (codes "text") g) (member_within 512 (codes "text") g) (has_no_holes g) (is_goal (kind_in g))
+        (not (has (codes "under") g)) (not (has (codes "each") g)) (has_no_more_members g) e in
+    let under = top (node_has_form g) (is_name (id_in g)) (has (codes "text") g) (member_within 512 (codes "text") g) (has_no_holes g) (is_goal (kind_in g))
+        (not (has (codes "under") g)) (not (has (codes "each") g)) (has_no_more_members g) e in
+    let holes = no_hole (node_has_form g) (is_name (id_in g)) (has (codes "text") g) (member_within 512 (codes "text") g) (has_no_holes g) (is_goal (kind_in g))
+        (not (has (codes "under") g)) (not (has (codes "each") g)) (has_no_more_members g) e in
+    (first, (under, holes))
+  where
+    plain : (f i t m h k u x r : Bool) → ((((((((f && i) && t) && m) && h) && k) && u) && x) && r) ≡ true → ((k && x) && r) ≡ true
+    plain f i t m h k u x r e = grind (arith, common_steps)
+
+    top : (f i t m h k u x r : Bool) → ((((((((f && i) && t) && m) && h) && k) && u) && x) && r) ≡ true → u ≡ true
+    top f i t m h k u x r e = grind (arith, common_steps)
+
+    no_hole : (f i t m h k u x r : Bool) → ((((((((f && i) && t) && m) && h) && k) && u) && x) && r) ≡ true → h ≡ true
+    no_hole f i t m h k u x r e = grind (arith, common_steps)
+
 -- what a plain goal has and has not
 pub record GoalParts (g : Document) : Type 0 where
   pub kind : kind_in g ≡ a_goal
@@ -305,3 +325,18 @@ module _ (m : Model) (d : Document) where
       ≡ (needs is_list_value (codes "templates") d && one_template_passes (templates_in d))
   unfolding template_faults
   templates_are_one_goal = templates_over (templates_in d) (listed_member (codes "templates") d)
+
+-- the tests of a template say that it has no parameters and one goal
+pub passing_template : (t : Document) → template_passes t ≡ true → (none_in (codes "params") t ≡ true) × (one_goal_passes (list_at (codes "nodes") t) ≡ true)
+passing_template t e =
+    go (template_has_form t) (is_name (name_in t)) (may_have is_list_value (codes "params") t) (none_in (codes "params") t)
+    (needs is_list_value (codes "nodes") t) (one_goal_passes (list_at (codes "nodes") t)) e
+  where
+    go : (f n m p k g : Bool) → ((((f && n) && (m && p)) && k) && g) ≡ true → (p ≡ true) × (g ≡ true)
+    go f n m p k g e = (parameters f n m p k g e, nodes f n m p k g e)
+      where
+        parameters : (f n m p k g : Bool) → ((((f && n) && (m && p)) && k) && g) ≡ true → p ≡ true
+        parameters f n m p k g e = grind (arith, common_steps)
+
+        nodes : (f n m p k g : Bool) → ((((f && n) && (m && p)) && k) && g) ≡ true → g ≡ true
+        nodes f n m p k g e = grind (arith, common_steps)

@@ -11,9 +11,9 @@ use Rattle.meaning.specs.LineRules.{line_in, feature_names_in, feature_has_form,
 use Rattle.meaning.specs.ModelRules.{model_in, model_faults}
 use Rattle.meaning.specs.TemplateRules.{templates_in, template_faults}
 use Rattle.meaning.specs.BundleRules.{bundle_has_form, is_one, bundle_rules, no_table, top_faults, faults_of_readers, bundle_faults, first_fault}
-use Rattle.meaning.specs.ThinForm.{line_is_thin, model_is_thin, is_one_goal, only_template, is_thin_goal}
+use Rattle.meaning.specs.ThinForm.{none_in, line_is_thin, model_is_thin, is_one_goal, only_template, is_thin_goal}
 use Rattle.meaning.specs.Stages.{keeps_rules, built_form}
-use Rattle.meaning.specs.ThinTests.{empty_or_absent, features_pass, bundle_passes, line_passes, model_passes, one_template_passes, one_goal_bundle_passes}
+use Rattle.meaning.specs.ThinTests.{features_pass, bundle_passes, line_passes, model_passes, one_template_passes, one_goal_bundle_passes}
 use Rattle.meaning.proofs.EmptyLists.{both_true, same_both, nothing_in, nothing_in_both, none_is_first, nothing_at}
 use Rattle.meaning.proofs.ItemRules.{items_have_names}
 use Rattle.meaning.proofs.ThinLineRules.{line_is_thin_line}
@@ -64,11 +64,22 @@ pub features_have_names : (ds : List Document) → features_pass ds ≡ true →
 features_have_names [] e = absurd (let n : false ≡ true = e in cc)
 features_have_names (d ∷ ds) e = items_have_names 256 feature_has_form (d ∷ ds) (both_true _ _ e).1
 
+pub line_features : (line : Document) → line_passes line ≡ true → features_pass (list_at (codes "features") line) ≡ true
+line_features line e =
+    go (needs is_list_value (codes "features") line) (features_pass (list_at (codes "features") line)) (may_have is_list_value (codes "rules") line) (none_in (codes "rules") line) e
+  where
+    go : (n f m r : Bool) → ((n && f) && (m && r)) ≡ true → f ≡ true
+    go n f m r e = grind (arith, common_steps)
+
+pub line_rules : (line : Document) → line_passes line ≡ true → none_in (codes "rules") line ≡ true
+line_rules line e =
+    go (needs is_list_value (codes "features") line) (features_pass (list_at (codes "features") line)) (may_have is_list_value (codes "rules") line) (none_in (codes "rules") line) e
+  where
+    go : (n f m r : Bool) → ((n && f) && (m && r)) ≡ true → r ≡ true
+    go n f m r e = grind (arith, common_steps)
+
 pub line_has_names : (line : Document) → line_passes line ≡ true → list_all is_name (map name_in (list_at (codes "features") line)) ≡ true
-line_has_names line e =
-    features_have_names (list_at (codes "features") line)
-    (both_true (needs is_list_value (codes "features") line) (features_pass (list_at (codes "features") line))
-    (both_true (needs is_list_value (codes "features") line && features_pass (list_at (codes "features") line)) (empty_or_absent (codes "rules") line) e).0).1
+line_has_names line e = features_have_names (list_at (codes "features") line) (line_features line e)
 
 -- ---- all of it
 
