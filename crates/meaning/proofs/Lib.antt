@@ -34,3 +34,4 @@ pub mod ThinModelRules
 pub mod ThinGoalRules
 pub mod ThinRules
 pub mod ThinDocuments
+pub mod CaseReadsBack

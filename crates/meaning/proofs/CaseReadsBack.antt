@@ -1,0 +1,139 @@
+-- A case document without findings and systems that keeps its limits: its JSON reads back as the document.
+use Rattle.std.proofs.Common.{◌≡◌, refl, sym, ap, ◌∙◌, subst, ℕ, zero, suc, ◌+◌, ◌<◌, ◌≤◌, ◌^◌, List, [], ◌∷◌, ◌++◌, map, length, Bool, true, false, not, ◌&&◌, ◌||◌, ◌==◌, cond, Option, Some, None, arith}
+use Rattle.std.specs.Prelude.{codes, nat_lt, nat_le, is_some, option_map, option_and_then, unwrap_or, pos, if◌then◌else◌}
+use Rattle.std.specs.List.{list_all, slice_get, enumerate_from, filter}
+use Rattle.std.proofs.lemmas.Bool.Decides.{nat_tests}
+use Rattle.std.proofs.lemmas.Grind.{common_steps}
+use Rattle.serde_json.specs.Data.{Data, string}
+use Rattle.meaning.specs.Texts.{numbered, is_text}
+use Rattle.meaning.specs.Documents.{Document, text, number, listed, items_of_json, of_json, as_natural, texts_in, list_at, member_of, text_at}
+use Rattle.meaning.specs.Cases.{NodeKind, Goal, Strategy, Solution, Context, Assumption, Justification, RelationKind, SupportedBy, InContextOf, kind_word, argues}
+use Rattle.meaning.specs.CaseFiles.{Row, CasePart, words, count, CaseNode, CaseRelation, CaseDocument, Finding}
+use Rattle.meaning.specs.CaseBytes.{items_of, natural_data, part_data, row_data, node_data, relation_data, relation_word, case_data}
+use Rattle.meaning.specs.CaseReading.{part_of, row_of, node_of, relation_of, kind_named, relation_named, naturals_in, case_document_of, failing, is_text_value, is_natural_value, is_zero_value, is_node, is_relation, is_triple, form_faults, bad_names, part_is_text, node_is_text, node_document_is_text, row_fits, row_document_fits, is_id, check_word_known, is_solution, is_strategy, no_branches, node_fits, faults_within, read_document, Is}
+use Rattle.meaning.proofs.EmptyLists.{both_true, all_true}
+use Rattle.meaning.proofs.CutTrees.{Each}
+
+-- ---- lists
+
+pub listed_items : {A : Type 0} (f : A → Data) (xs : List A) → listed (items_of_json (items_of (map f xs))) ≡ map (λ x. of_json (f x)) xs
+listed_items f [] = refl
+listed_items f (x ∷ xs) = ap (λ ds. of_json (f x) ∷ ds) (listed_items f xs)
+
+-- what is read of each item is the item
+pub each_back : {A B : Type 0} (f : A → B) (g : B → A) (xs : List A) → Each (λ x. g (f x) ≡ x) xs → map g (map f xs) ≡ xs
+each_back f g [] h = refl
+each_back f g (x ∷ xs) h = rw (h.0, each_back f g xs h.1) refl
+
+pub each_passes : {A B : Type 0} (f : A → B) (test : B → Bool) (xs : List A) → Each (λ x. test (f x) ≡ true) xs → list_all test (map f xs) ≡ true
+each_passes f test [] h = refl
+each_passes f test (x ∷ xs) h = rw (h.0, each_passes f test xs h.1) refl
+
+pub each_for : {A : Type 0} (P Q : A → Type 0) → ((x : A) → P x → Q x) → (xs : List A) → Each P xs → Each Q xs
+each_for P Q f [] h = tt
+each_for P Q f (x ∷ xs) h = (f x h.0, each_for P Q f xs h.1)
+
+none_fails_from : {A : Type 0} (test : A → Bool) (k : ℕ) (xs : List A) → list_all test xs ≡ true
+    → map (λ x. x.0) (filter (λ x. not (test x.1)) (enumerate_from k xs)) ≡ []
+none_fails_from test k [] e = refl
+none_fails_from test k (x ∷ xs) e =
+    let parts = both_true (test x) (list_all test xs) e in rw parts.0 (none_fails_from test (k + 1) xs parts.1)
+
+pub none_fails : {A : Type 0} (test : A → Bool) (xs : List A) → list_all test xs ≡ true → failing test xs ≡ []
+none_fails test xs e = none_fails_from test 0 xs e
+
+-- ---- numbers
+
+below_32 : (n : ℕ) → n < 2 ^ 32 → nat_lt n (2 ^ 32) ≡ true
+below_32 n l = grind (arith, nat_tests)
+
+below_63 : (n : ℕ) → n < 2 ^ 32 → nat_lt n (2 ^ 63) ≡ true
+below_63 n l = let m : n < 2 ^ 63 = omega (arith, l) in grind (arith, nat_tests)
+
+pub natural_back : (n : ℕ) → n < 2 ^ 32 → as_natural (of_json (natural_data n)) ≡ Some n
+natural_back n l = rw (below_63 n l, below_32 n l) refl
+
+pub naturals_back : (ns : List ℕ) → Each (λ n. n < 2 ^ 32) ns → naturals_in (map (λ n. of_json (natural_data n)) ns) ≡ ns
+naturals_back [] h = refl
+naturals_back (n ∷ ns) h = rw (natural_back n h.0, naturals_back ns h.1) refl
+
+-- ---- texts
+
+pub texts_back : (ss : List (List ℕ)) → texts_in (map (λ s. of_json (string s)) ss) ≡ ss
+texts_back [] = refl
+texts_back (s ∷ ss) = ap (λ xs. s ∷ xs) (texts_back ss)
+
+pub texts_are_texts : (ss : List (List ℕ)) → list_all is_text_value (map (λ s. of_json (string s)) ss) ≡ true
+texts_are_texts [] = refl
+texts_are_texts (s ∷ ss) = texts_are_texts ss
+
+-- ---- a node
+
+kind_back : (k : NodeKind) → kind_named (kind_word k) ≡ Some k
+kind_back Goal = refl
+kind_back Strategy = refl
+kind_back Solution = refl
+kind_back Context = refl
+kind_back Assumption = refl
+kind_back Justification = refl
+
+parts_back : (ps : List CasePart) → map part_of (map (λ p. of_json (part_data p)) ps) ≡ ps
+parts_back [] = refl
+parts_back (words s ∷ ps) = ap (λ xs. words s ∷ xs) (parts_back ps)
+parts_back (count ∷ ps) = ap (λ xs. count ∷ xs) (parts_back ps)
+
+parts_have_form : (ps : List CasePart) → list_all (λ p. is_text_value p || is_zero_value p) (map (λ p. of_json (part_data p)) ps) ≡ true
+parts_have_form [] = refl
+parts_have_form (words s ∷ ps) = parts_have_form ps
+parts_have_form (count ∷ ps) = parts_have_form ps
+
+naturals_have_form : (ns : List ℕ) → Each (λ n. n < 2 ^ 32) ns → list_all is_natural_value (map (λ n. of_json (natural_data n)) ns) ≡ true
+naturals_have_form [] h = refl
+naturals_have_form (n ∷ ns) h = rw (natural_back n h.0, naturals_have_form ns h.1) refl
+
+-- a node without a finding
+abbrev plain_node : List ℕ → NodeKind → List CasePart → ℕ → Bool → List ℕ → CaseNode
+plain_node key kind parts presence undeveloped branches =
+    record { key = key; kind = kind; parts = parts; presence = presence; undeveloped = undeveloped; branches = branches; finding = None }
+
+node_with_back : (key : List ℕ) (kind : NodeKind) (parts : List CasePart) (presence : ℕ) (undeveloped : Bool) (branches : List ℕ)
+    → presence < 2 ^ 32 → Each (λ n. n < 2 ^ 32) branches
+    → node_of (of_json (node_data (plain_node key kind parts presence undeveloped branches))) ≡ plain_node key kind parts presence undeveloped branches
+node_with_back key kind parts presence true [] l h =
+    rw (listed_items part_data parts, parts_back parts, kind_back kind, natural_back presence l) refl
+node_with_back key kind parts presence false [] l h =
+    rw (listed_items part_data parts, parts_back parts, kind_back kind, natural_back presence l) refl
+node_with_back key kind parts presence true (b ∷ bs) l h =
+    rw (listed_items part_data parts, parts_back parts, kind_back kind, natural_back presence l, listed_items natural_data bs, natural_back b h.0, naturals_back bs h.1) refl
+node_with_back key kind parts presence false (b ∷ bs) l h =
+    rw (listed_items part_data parts, parts_back parts, kind_back kind, natural_back presence l, listed_items natural_data bs, natural_back b h.0, naturals_back bs h.1) refl
+
+node_with_form : (key : List ℕ) (kind : NodeKind) (parts : List CasePart) (presence : ℕ) (undeveloped : Bool) (branches : List ℕ)
+    → presence < 2 ^ 32 → Each (λ n. n < 2 ^ 32) branches
+    → is_node (of_json (node_data (plain_node key kind parts presence undeveloped branches))) ≡ true
+node_with_form key kind parts presence true [] l h =
+    rw (listed_items part_data parts, parts_have_form parts, natural_back presence l) refl
+node_with_form key kind parts presence false [] l h =
+    rw (listed_items part_data parts, parts_have_form parts, natural_back presence l) refl
+node_with_form key kind parts presence true (b ∷ bs) l h =
+    rw (listed_items part_data parts, parts_have_form parts, natural_back presence l, listed_items natural_data bs, natural_back b h.0, naturals_have_form bs h.1) refl
+node_with_form key kind parts presence false (b ∷ bs) l h =
+    rw (listed_items part_data parts, parts_have_form parts, natural_back presence l, listed_items natural_data bs, natural_back b h.0, naturals_have_form bs h.1) refl
+
+-- ---- a relation and a row
+
+relation_word_back : (k : RelationKind) → relation_named (relation_word k) ≡ Some k
+relation_word_back SupportedBy = refl
+relation_word_back InContextOf = refl
+
+relation_back : (r : CaseRelation) → r.source < 2 ^ 32 → r.target < 2 ^ 32 → r.presence < 2 ^ 32 → relation_of (of_json (relation_data r)) ≡ r
+relation_back r s t p = rw (natural_back r.source s, natural_back r.target t, natural_back r.presence p, relation_word_back r.kind) refl
+
+relation_form : (r : CaseRelation) → r.source < 2 ^ 32 → r.target < 2 ^ 32 → r.presence < 2 ^ 32 → is_relation (of_json (relation_data r)) ≡ true
+relation_form r s t p = rw (natural_back r.source s, natural_back r.target t, natural_back r.presence p) refl
+
+row_back : (r : Row) → r.variable < 2 ^ 32 → r.low < 2 ^ 32 → r.high < 2 ^ 32 → row_of (of_json (row_data r)) ≡ r
+row_back r s t p = rw (natural_back r.variable s, natural_back r.low t, natural_back r.high p) refl
+
+row_form : (r : Row) → r.variable < 2 ^ 32 → r.low < 2 ^ 32 → r.high < 2 ^ 32 → is_triple (of_json (row_data r)) ≡ true
+row_form r s t p = rw (natural_back r.variable s, natural_back r.low t, natural_back r.high p) refl
