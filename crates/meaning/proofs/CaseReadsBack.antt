@@ -137,3 +137,133 @@ row_back r s t p = rw (natural_back r.variable s, natural_back r.low t, natural_
 
 row_form : (r : Row) → r.variable < 2 ^ 32 → r.low < 2 ^ 32 → r.high < 2 ^ 32 → is_triple (of_json (row_data r)) ≡ true
 row_form r s t p = rw (natural_back r.variable s, natural_back r.low t, natural_back r.high p) refl
+
+-- ---- what a document needs to read back
+
+pub record IsReadableNode (k : CaseDocument) (n : CaseNode) : Type 0 where
+  pub finding : n.finding ≡ None
+  pub key : is_text n.key ≡ true
+  pub parts : list_all part_is_text n.parts ≡ true
+  pub presence : is_id k n.presence ≡ true
+  pub branches : list_all (is_id k) n.branches ≡ true
+  pub no_solution : is_solution n.kind ≡ false
+  pub branching : (is_strategy n.kind || no_branches n.branches) ≡ true
+  pub arguing : (argues n.kind || not n.undeveloped) ≡ true
+
+pub record IsReadableRelation (k : CaseDocument) (r : CaseRelation) : Type 0 where
+  pub source : nat_lt r.source (length k.nodes) ≡ true
+  pub target : nat_lt r.target (length k.nodes) ≡ true
+  pub presence : is_id k r.presence ≡ true
+
+pub record IsReadable (k : CaseDocument) : Type 0 where
+  pub systems : k.systems ≡ []
+  pub title : is_text k.title ≡ true
+  pub names : bad_names k.features ≡ []
+  pub few_features : length k.features ≤ 256
+  pub few_nodes : length k.nodes ≤ 32768
+  pub few_relations : length k.relations ≤ 65536
+  pub few_rows : length k.table + 2 ≤ 2 ^ 32
+  pub valid : is_id k k.valid ≡ true
+  pub nodes : Each (IsReadableNode k) k.nodes
+  pub relations : Each (IsReadableRelation k) k.relations
+  pub rows : list_all (row_fits k.table (length k.features)) (numbered k.table) ≡ true
+
+-- ---- its numbers are small
+
+lt_from : (n m : ℕ) → nat_lt n m ≡ true → n < m
+lt_from n m e = grind (arith, nat_tests)
+
+module _ (k : CaseDocument) (few : length k.table + 2 ≤ 2 ^ 32) where
+  small_id : (n : ℕ) → is_id k n ≡ true → n < 2 ^ 32
+  small_id n e = let l : n < length k.table + 2 = lt_from n (length k.table + 2) e in omega (arith, l, few)
+
+  small_ids : (ns : List ℕ) → list_all (is_id k) ns ≡ true → Each (λ n. n < 2 ^ 32) ns
+  small_ids [] e = tt
+  small_ids (n ∷ ns) e = let parts = both_true (is_id k n) (list_all (is_id k) ns) e in (small_id n parts.0, small_ids ns parts.1)
+
+abbrev IsSmallRow : Row → Type 0
+IsSmallRow r = (r.variable < 2 ^ 32) × (r.low < 2 ^ 32) × (r.high < 2 ^ 32)
+
+three_parts : (a b c d e f g : Bool) → (a && b && c && d && e && f && g) ≡ true → (a ≡ true) × (b ≡ true) × (c ≡ true)
+three_parts true true true d e f g h = (refl, refl, refl)
+three_parts true true false d e f g h = absurd (let n : false ≡ true = h in cc)
+three_parts true false c d e f g h = absurd (let n : false ≡ true = h in cc)
+three_parts false b c d e f g h = absurd (let n : false ≡ true = h in cc)
+
+small_rows : (table : List Row) (features n i : ℕ) (rows : List Row) → features ≤ 256 → n + 2 ≤ 2 ^ 32 → i + length rows ≤ n
+    → list_all (row_fits table features) (enumerate_from i rows) ≡ true → Each IsSmallRow rows
+small_rows table features n i [] f m l e = tt
+small_rows table features n i (r ∷ rs) f m l e =
+    let parts = both_true (row_fits table features (i, r)) (list_all (row_fits table features) (enumerate_from (i + 1) rs)) e in
+    let here = three_parts _ _ _ _ _ _ _ parts.0 in
+    let v : r.variable < features = lt_from r.variable features here.0 in
+    let low : r.low < i + 2 = lt_from r.low (i + 2) here.1 in
+    let high : r.high < i + 2 = lt_from r.high (i + 2) here.2 in
+    let at : i + suc (length rs) ≤ n = l in
+    ((omega (arith, v, f), omega (arith, low, m, at), omega (arith, high, m, at)), small_rows table features n (i + 1) rs f m (omega (arith, at)) parts.1)
+
+-- ---- the document
+
+-- a case document without systems
+abbrev plain_case : List ℕ → List (List ℕ) → ℕ → List CaseNode → List CaseRelation → List Row → CaseDocument
+plain_case title features valid nodes relations table =
+    record { title = title; features = features; valid = valid; nodes = nodes; relations = relations; systems = []; table = table }
+
+module _ (title : List ℕ) (features : List (List ℕ)) (valid : ℕ) (nodes : List CaseNode) (relations : List CaseRelation) (table : List Row)
+    (good : IsReadable (plain_case title features valid nodes relations table)) where
+  abbrev case : CaseDocument
+  case = plain_case title features valid nodes relations table
+
+  abbrev json : Document
+  json = of_json (case_data case)
+
+  small_valid : valid < 2 ^ 32
+  small_valid = small_id case good.few_rows valid good.valid
+
+  -- of each node
+  node_back : (n : CaseNode) → IsReadableNode case n → node_of (of_json (node_data n)) ≡ n
+  node_back n h =
+      ap (λ f. node_of (of_json (node_data (with_finding f)))) h.finding
+      ∙ node_with_back n.key n.kind n.parts n.presence n.undeveloped n.branches (small_id case good.few_rows n.presence h.presence) (small_ids case good.few_rows n.branches h.branches)
+      ∙ ap with_finding (sym h.finding)
+    where
+      with_finding : Option Finding → CaseNode
+      with_finding f = record { key = n.key; kind = n.kind; parts = n.parts; presence = n.presence; undeveloped = n.undeveloped; branches = n.branches; finding = f }
+
+  node_form : (n : CaseNode) → IsReadableNode case n → is_node (of_json (node_data n)) ≡ true
+  node_form n h =
+      ap (λ f. is_node (of_json (node_data (with_finding f)))) h.finding
+      ∙ node_with_form n.key n.kind n.parts n.presence n.undeveloped n.branches (small_id case good.few_rows n.presence h.presence) (small_ids case good.few_rows n.branches h.branches)
+    where
+      with_finding : Option Finding → CaseNode
+      with_finding f = record { key = n.key; kind = n.kind; parts = n.parts; presence = n.presence; undeveloped = n.undeveloped; branches = n.branches; finding = f }
+
+  small_number : (n : ℕ) → nat_lt n (length nodes) ≡ true → n < 2 ^ 32
+  small_number n e = let l : n < length nodes = lt_from n (length nodes) e in let f : length nodes ≤ 32768 = good.few_nodes in omega (arith, l, f)
+
+  of_relation : (r : CaseRelation) → IsReadableRelation case r → (relation_of (of_json (relation_data r)) ≡ r) × (is_relation (of_json (relation_data r)) ≡ true)
+  of_relation r h =
+      let s = small_number r.source h.source in
+      let t = small_number r.target h.target in
+      let p = small_id case good.few_rows r.presence h.presence in
+      (relation_back r s t p, relation_form r s t p)
+
+  rows_small : Each IsSmallRow table
+  rows_small = small_rows table (length features) (length table) 0 table good.few_features good.few_rows (omega arith) good.rows
+
+  -- it is read as the case
+  document_is : case_document_of json ≡ case
+  unfolding case_document_of
+  document_is =
+      rw (listed_items string features, texts_back features, natural_back valid small_valid,
+        listed_items node_data nodes, each_back (λ n. of_json (node_data n)) node_of nodes (each_for _ _ node_back nodes good.nodes),
+        listed_items relation_data relations, each_back (λ r. of_json (relation_data r)) relation_of relations (each_for _ _ (λ r h. (of_relation r h).0) relations good.relations),
+        listed_items row_data table, each_back (λ r. of_json (row_data r)) row_of table (each_for _ _ (λ r h. row_back r h.0 h.1 h.2) table rows_small)) refl
+
+  formed : form_faults json ≡ []
+  formed =
+      rw (listed_items string features, none_fails is_text_value (map (λ s. of_json (string s)) features) (texts_are_texts features),
+        listed_items node_data nodes, none_fails is_node (map (λ n. of_json (node_data n)) nodes) (each_passes (λ n. of_json (node_data n)) is_node nodes (each_for _ _ node_form nodes good.nodes)),
+        natural_back valid small_valid,
+        listed_items relation_data relations, none_fails is_relation (map (λ r. of_json (relation_data r)) relations)
+        (each_passes (λ r. of_json (relation_data r)) is_relation relations (each_for _ _ (λ r h. (of_relation r h).1) relations good.relations))) refl
