@@ -8,9 +8,9 @@ use Rattle.serde_json.specs.Data.{Data, string}
 use Rattle.meaning.specs.Texts.{numbered, is_text}
 use Rattle.meaning.specs.Documents.{Document, text, number, listed, items_of_json, of_json, as_natural, texts_in, list_at, member_of, text_at}
 use Rattle.meaning.specs.Cases.{NodeKind, Goal, Strategy, Solution, Context, Assumption, Justification, RelationKind, SupportedBy, InContextOf, kind_word, argues}
-use Rattle.meaning.specs.CaseFiles.{Row, CasePart, words, count, CaseNode, CaseRelation, CaseDocument, Finding}
+use Rattle.meaning.specs.CaseFiles.{Row, CasePart, words, count, CaseNode, CaseRelation, CaseSystem, CaseDocument, Finding}
 use Rattle.meaning.specs.CaseBytes.{items_of, natural_data, part_data, row_data, node_data, relation_data, relation_word, case_data}
-use Rattle.meaning.specs.CaseReading.{part_of, row_of, node_of, relation_of, kind_named, relation_named, naturals_in, case_document_of, failing, is_text_value, is_natural_value, is_zero_value, is_node, is_relation, is_triple, form_faults, bad_names, part_is_text, node_is_text, node_document_is_text, row_fits, row_document_fits, is_id, check_word_known, is_solution, is_strategy, no_branches, node_fits, faults_within, read_document, Is}
+use Rattle.meaning.specs.CaseReading.{part_of, row_of, node_of, relation_of, kind_named, relation_named, naturals_in, case_document_of, failing, is_text_value, is_natural_value, is_zero_value, is_node, is_relation, is_triple, form_faults, bad_names, part_is_text, node_is_text, node_document_is_text, row_fits, row_document_fits, is_id, check_word_known, is_solution, is_strategy, no_branches, expression_in, finding_fits, node_fits, past, finding_ids, faults_at, Nodes, Table, Relations, text_faults, table_faults, id_faults, word_faults, end_faults, limit_faults, faults_within, read_document, Is}
 use Rattle.meaning.proofs.EmptyLists.{both_true, all_true}
 use Rattle.meaning.proofs.CutTrees.{Each}
 
@@ -168,6 +168,33 @@ pub record IsReadable (k : CaseDocument) : Type 0 where
   pub relations : Each (IsReadableRelation k) k.relations
   pub rows : list_all (row_fits k.table (length k.features)) (numbered k.table) ≡ true
 
+-- a node without a finding, and what its JSON says of that and of its kind
+without_finding : (n : CaseNode) → n.finding ≡ None → n ≡ plain_node n.key n.kind n.parts n.presence n.undeveloped n.branches
+without_finding n e = ap (λ f. record { key = n.key; kind = n.kind; parts = n.parts; presence = n.presence; undeveloped = n.undeveloped; branches = n.branches; finding = f }) e
+
+no_finding : (key : List ℕ) (kind : NodeKind) (parts : List CasePart) (presence : ℕ) (undeveloped : Bool) (branches : List ℕ)
+    → (member_of (codes "finding") (of_json (node_data (plain_node key kind parts presence undeveloped branches))) ≡ None)
+    × (text_at (codes "kind") (of_json (node_data (plain_node key kind parts presence undeveloped branches))) ≡ kind_word kind)
+no_finding key kind parts presence true [] = (refl, refl)
+no_finding key kind parts presence false [] = (refl, refl)
+no_finding key kind parts presence true (b ∷ bs) = (refl, refl)
+no_finding key kind parts presence false (b ∷ bs) = (refl, refl)
+
+each_all : {A : Type 0} (test : A → Bool) (xs : List A) → Each (λ x. test x ≡ true) xs → list_all test xs ≡ true
+each_all test [] h = refl
+each_all test (x ∷ xs) h = rw (h.0, each_all test xs h.1) refl
+
+none_fail_of : {A : Type 0} (test : ℕ × A → Bool) (xs : List (ℕ × A)) → list_all test xs ≡ true → map (λ x. x.0) (filter (λ x. not (test x)) xs) ≡ []
+none_fail_of test [] e = refl
+none_fail_of test (x ∷ xs) e =
+    let parts = both_true (test x) (list_all test xs) e in rw parts.0 (none_fail_of test xs parts.1)
+
+not_past : (limit n : ℕ) → n ≤ limit → past limit n ≡ []
+not_past limit n l = ap (λ b. if b then limit ∷ [] else []) (not_less limit n l)
+  where
+    not_less : (limit n : ℕ) → n ≤ limit → nat_lt limit n ≡ false
+    not_less limit n l = grind (arith, nat_tests)
+
 -- ---- its numbers are small
 
 lt_from : (n m : ℕ) → nat_lt n m ≡ true → n < m
@@ -267,3 +294,99 @@ module _ (title : List ℕ) (features : List (List ℕ)) (valid : ℕ) (nodes : 
         natural_back valid small_valid,
         listed_items relation_data relations, none_fails is_relation (map (λ r. of_json (relation_data r)) relations)
         (each_passes (λ r. of_json (relation_data r)) is_relation relations (each_for _ _ (λ r h. (of_relation r h).1) relations good.relations))) refl
+
+  -- ---- no fault of its own
+
+  word_of : (n : CaseNode) → IsReadableNode case n → (member_of (codes "finding") (of_json (node_data n)) ≡ None) × (text_at (codes "kind") (of_json (node_data n)) ≡ kind_word n.kind)
+  word_of n h =
+      subst (λ x. (member_of (codes "finding") (of_json (node_data x)) ≡ None) × (text_at (codes "kind") (of_json (node_data x)) ≡ kind_word x.kind))
+      (sym (without_finding n h.finding)) (no_finding n.key n.kind n.parts n.presence n.undeveloped n.branches)
+
+  node_is_right : (n : CaseNode) → IsReadableNode case n
+      → (node_document_is_text (of_json (node_data n)) ≡ true) × (node_fits case (of_json (node_data n)) ≡ true)
+      × ((is_some (kind_named (text_at (codes "kind") (of_json (node_data n)))) && check_word_known (of_json (node_data n))) ≡ true)
+  node_is_right n h =
+      let w = word_of n h in
+      let b = node_back n h in
+      (
+        ap (λ x. node_is_text x && is_text (expression_in (of_json (node_data n)))) b
+        ∙ ap (λ o. node_is_text n && is_text (unwrap_or (option_map (text_at (codes "expr")) o) [])) w.0
+        ∙ rw (h.key, h.parts, h.finding) refl,
+        ap (λ x. finding_fits case x.kind (member_of (codes "finding") (of_json (node_data n))) && (is_strategy x.kind || no_branches x.branches) && (argues x.kind || not x.undeveloped)) b
+        ∙ ap (λ o. finding_fits case n.kind o && (is_strategy n.kind || no_branches n.branches) && (argues n.kind || not n.undeveloped)) w.0
+        ∙ rw (h.no_solution, h.branching, h.arguing) refl,
+        rw (w.1, kind_back n.kind, w.0) refl,
+      )
+
+  texts_are : text_faults json case ≡ []
+  texts_are =
+      rw (good.title, good.names, listed_items node_data nodes,
+        none_fails node_document_is_text (map (λ n. of_json (node_data n)) nodes)
+        (each_passes (λ n. of_json (node_data n)) node_document_is_text nodes (each_for _ _ (λ n h. (node_is_right n h).0) nodes good.nodes))) refl
+
+  rows_fit : (i : ℕ) (rows : List Row) → Each IsSmallRow rows → list_all (row_fits table (length features)) (enumerate_from i rows) ≡ true
+      → list_all (row_document_fits case) (enumerate_from i (map (λ r. of_json (row_data r)) rows)) ≡ true
+  rows_fit i [] s e = refl
+  rows_fit i (r ∷ rs) s e =
+      let parts = both_true (row_fits table (length features) (i, r)) (list_all (row_fits table (length features)) (enumerate_from (i + 1) rs)) e in
+      let here : row_document_fits case (i, of_json (row_data r)) ≡ true
+          = ap (λ b. b && row_fits table (length features) (i, row_of (of_json (row_data r)))) (row_form r s.0.0 s.0.1 s.0.2)
+          ∙ ap (λ x. row_fits table (length features) (i, x)) (row_back r s.0.0 s.0.1 s.0.2) ∙ parts.0 in
+      all_true _ _ here (rows_fit (i + 1) rs s.1 parts.1)
+
+  table_is : table_faults json case ≡ []
+  table_is =
+      ap (λ ds. faults_at 5 Table (map (λ r. r.0) (filter (λ r. not (row_document_fits case r)) (numbered ds)))) (listed_items row_data table)
+      ∙ ap (faults_at 5 Table) (none_fail_of (row_document_fits case) (numbered (map (λ r. of_json (row_data r)) table)) (rows_fit 0 table rows_small good.rows))
+
+  ids_are : id_faults case ≡ []
+  ids_are =
+      rw (none_fails (λ n. is_id case n.presence && list_all (is_id case) n.branches && list_all (is_id case) (finding_ids n.finding)) nodes
+        (each_all (λ n. is_id case n.presence && list_all (is_id case) n.branches && list_all (is_id case) (finding_ids n.finding)) nodes (each_for _ _ node_ids nodes good.nodes)),
+        good.valid, none_fails (λ r. is_id case r.presence) relations (each_all (λ r. is_id case r.presence) relations (each_for _ _ (λ r h. h.presence) relations good.relations))) refl
+    where
+      node_ids : (n : CaseNode) → IsReadableNode case n → (is_id case n.presence && list_all (is_id case) n.branches && list_all (is_id case) (finding_ids n.finding)) ≡ true
+      node_ids n h = rw (h.presence, h.branches, h.finding) refl
+
+  words_are : word_faults json ≡ []
+  words_are =
+      rw (listed_items node_data nodes,
+        none_fails (λ n. is_some (kind_named (text_at (codes "kind") n)) && check_word_known n) (map (λ n. of_json (node_data n)) nodes)
+        (each_passes (λ n. of_json (node_data n)) (λ n. is_some (kind_named (text_at (codes "kind") n)) && check_word_known n) nodes (each_for _ _ (λ n h. (node_is_right n h).2) nodes good.nodes)),
+        listed_items relation_data relations,
+        none_fails (λ r. is_some (relation_named (text_at (codes "kind") r))) (map (λ r. of_json (relation_data r)) relations)
+        (each_passes (λ r. of_json (relation_data r)) (λ r. is_some (relation_named (text_at (codes "kind") r))) relations (each_for _ _ (λ r h. known r) relations good.relations))) refl
+    where
+      known : (r : CaseRelation) → is_some (relation_named (text_at (codes "kind") (of_json (relation_data r)))) ≡ true
+      known r = ap is_some (relation_word_back r.kind)
+
+  ends_are : end_faults case ≡ []
+  ends_are =
+      ap (faults_at 8 Relations) (none_fails (λ r. nat_lt r.source (length nodes) && nat_lt r.target (length nodes)) relations
+      (each_all (λ r. nat_lt r.source (length nodes) && nat_lt r.target (length nodes)) relations
+      (each_for _ _ (λ r h. all_true (nat_lt r.source (length nodes)) (nat_lt r.target (length nodes)) h.source h.target) relations good.relations)))
+
+  nodes_fit : faults_at 10 Nodes (failing (node_fits case) (list_at (codes "nodes") json)) ≡ []
+  nodes_fit =
+      ap (λ ds. faults_at 10 Nodes (failing (node_fits case) ds)) (listed_items node_data nodes)
+      ∙ ap (faults_at 10 Nodes) (none_fails (node_fits case) (map (λ n. of_json (node_data n)) nodes)
+      (each_passes (λ n. of_json (node_data n)) (node_fits case) nodes (each_for _ _ (λ n h. (node_is_right n h).1) nodes good.nodes)))
+
+  limits_are : limit_faults case ≡ []
+  limits_are = rw (not_past 256 (length features) good.few_features, not_past 32768 (length nodes) good.few_nodes, not_past 65536 (length relations) good.few_relations) refl
+
+  unbroken : faults_within json case ≡ []
+  unbroken = rw (texts_are, table_is, ids_are, words_are, ends_are, nodes_fit, limits_are) refl
+
+  plain_case_reads : read_document (Some (of_json (case_data case))) ≡ Is case
+  plain_case_reads = rw (formed, document_is, unbroken) refl
+
+-- the same of any case document
+pub case_reads_back : (k : CaseDocument) → IsReadable k → read_document (Some (of_json (case_data k))) ≡ Is k
+case_reads_back k good =
+    let e : k ≡ plain_case k.title k.features k.valid k.nodes k.relations k.table = ap with_systems good.systems in
+    subst (λ x. read_document (Some (of_json (case_data x))) ≡ Is x) (sym e)
+    (plain_case_reads k.title k.features k.valid k.nodes k.relations k.table (subst IsReadable e good))
+  where
+    with_systems : List CaseSystem → CaseDocument
+    with_systems s = record { title = k.title; features = k.features; valid = k.valid; nodes = k.nodes; relations = k.relations; systems = s; table = k.table }
