@@ -1,12 +1,11 @@
 -- A case document without findings and systems that keeps its limits: its JSON reads back as the document.
-use Rattle.std.proofs.Common.{◌≡◌, refl, sym, ap, ◌∙◌, subst, ℕ, zero, suc, ◌+◌, ◌<◌, ◌≤◌, ◌^◌, List, [], ◌∷◌, ◌++◌, map, length, Bool, true, false, not, ◌&&◌, ◌||◌, ◌==◌, cond, Option, Some, None, arith}
-use Rattle.std.specs.Prelude.{codes, nat_lt, nat_le, is_some, option_map, option_and_then, unwrap_or, pos, if◌then◌else◌}
-use Rattle.std.specs.List.{list_all, slice_get, enumerate_from, filter}
+use Rattle.std.proofs.Common.{◌≡◌, refl, sym, ap, ◌∙◌, subst, ℕ, suc, ◌+◌, ◌<◌, ◌≤◌, ◌^◌, List, [], ◌∷◌, map, length, Bool, true, false, not, ◌&&◌, ◌||◌, Option, Some, None, arith}
+use Rattle.std.specs.Prelude.{codes, nat_lt, is_some, option_map, unwrap_or, if◌then◌else◌}
+use Rattle.std.specs.List.{list_all, enumerate_from, filter}
 use Rattle.std.proofs.lemmas.Bool.Decides.{nat_tests}
-use Rattle.std.proofs.lemmas.Grind.{common_steps}
 use Rattle.serde_json.specs.Data.{Data, string}
 use Rattle.meaning.specs.Texts.{numbered, is_text}
-use Rattle.meaning.specs.Documents.{Document, text, number, listed, items_of_json, of_json, as_natural, texts_in, list_at, member_of, text_at}
+use Rattle.meaning.specs.Documents.{Document, listed, items_of_json, of_json, as_natural, texts_in, list_at, member_of, text_at}
 use Rattle.meaning.specs.Cases.{NodeKind, Goal, Strategy, Solution, Context, Assumption, Justification, RelationKind, SupportedBy, InContextOf, kind_word, argues}
 use Rattle.meaning.specs.CaseFiles.{Row, CasePart, words, count, CaseNode, CaseRelation, CaseSystem, CaseDocument, Finding}
 use Rattle.meaning.specs.CaseBytes.{items_of, natural_data, part_data, row_data, node_data, relation_data, relation_word, case_data}
@@ -282,18 +281,30 @@ module _ (title : List ℕ) (features : List (List ℕ)) (valid : ℕ) (nodes : 
   document_is : case_document_of json ≡ case
   unfolding case_document_of
   document_is =
-      rw (listed_items string features, texts_back features, natural_back valid small_valid,
-        listed_items node_data nodes, each_back (λ n. of_json (node_data n)) node_of nodes (each_for _ _ node_back nodes good.nodes),
-        listed_items relation_data relations, each_back (λ r. of_json (relation_data r)) relation_of relations (each_for _ _ (λ r h. (of_relation r h).0) relations good.relations),
-        listed_items row_data table, each_back (λ r. of_json (row_data r)) row_of table (each_for _ _ (λ r h. row_back r h.0 h.1 h.2) table rows_small)) refl
+      rw (
+        listed_items string features,
+        texts_back features,
+        natural_back valid small_valid,
+        listed_items node_data nodes,
+        each_back (λ n. of_json (node_data n)) node_of nodes (each_for _ _ node_back nodes good.nodes),
+        listed_items relation_data relations,
+        each_back (λ r. of_json (relation_data r)) relation_of relations (each_for _ _ (λ r h. (of_relation r h).0) relations good.relations),
+        listed_items row_data table,
+        each_back (λ r. of_json (row_data r)) row_of table (each_for _ _ (λ r h. row_back r h.0 h.1 h.2) table rows_small),
+      ) refl
 
   formed : form_faults json ≡ []
   formed =
-      rw (listed_items string features, none_fails is_text_value (map (λ s. of_json (string s)) features) (texts_are_texts features),
-        listed_items node_data nodes, none_fails is_node (map (λ n. of_json (node_data n)) nodes) (each_passes (λ n. of_json (node_data n)) is_node nodes (each_for _ _ node_form nodes good.nodes)),
+      rw (
+        listed_items string features,
+        none_fails is_text_value (map (λ s. of_json (string s)) features) (texts_are_texts features),
+        listed_items node_data nodes,
+        none_fails is_node (map (λ n. of_json (node_data n)) nodes) (each_passes (λ n. of_json (node_data n)) is_node nodes (each_for _ _ node_form nodes good.nodes)),
         natural_back valid small_valid,
-        listed_items relation_data relations, none_fails is_relation (map (λ r. of_json (relation_data r)) relations)
-        (each_passes (λ r. of_json (relation_data r)) is_relation relations (each_for _ _ (λ r h. (of_relation r h).1) relations good.relations))) refl
+        listed_items relation_data relations,
+        none_fails is_relation (map (λ r. of_json (relation_data r)) relations)
+            (each_passes (λ r. of_json (relation_data r)) is_relation relations (each_for _ _ (λ r h. (of_relation r h).1) relations good.relations)),
+      ) refl
 
   -- ---- no fault of its own
 
@@ -307,22 +318,25 @@ module _ (title : List ℕ) (features : List (List ℕ)) (valid : ℕ) (nodes : 
       × ((is_some (kind_named (text_at (codes "kind") (of_json (node_data n)))) && check_word_known (of_json (node_data n))) ≡ true)
   node_is_right n h =
       let w = word_of n h in
-      let b = node_back n h in
-      (
+      let b = node_back n h in (
         ap (λ x. node_is_text x && is_text (expression_in (of_json (node_data n)))) b
-        ∙ ap (λ o. node_is_text n && is_text (unwrap_or (option_map (text_at (codes "expr")) o) [])) w.0
-        ∙ rw (h.key, h.parts, h.finding) refl,
+            ∙ ap (λ o. node_is_text n && is_text (unwrap_or (option_map (text_at (codes "expr")) o) [])) w.0
+            ∙ rw (h.key, h.parts, h.finding) refl,
         ap (λ x. finding_fits case x.kind (member_of (codes "finding") (of_json (node_data n))) && (is_strategy x.kind || no_branches x.branches) && (argues x.kind || not x.undeveloped)) b
-        ∙ ap (λ o. finding_fits case n.kind o && (is_strategy n.kind || no_branches n.branches) && (argues n.kind || not n.undeveloped)) w.0
-        ∙ rw (h.no_solution, h.branching, h.arguing) refl,
+            ∙ ap (λ o. finding_fits case n.kind o && (is_strategy n.kind || no_branches n.branches) && (argues n.kind || not n.undeveloped)) w.0
+            ∙ rw (h.no_solution, h.branching, h.arguing) refl,
         rw (w.1, kind_back n.kind, w.0) refl,
       )
 
   texts_are : text_faults json case ≡ []
   texts_are =
-      rw (good.title, good.names, listed_items node_data nodes,
+      rw (
+        good.title,
+        good.names,
+        listed_items node_data nodes,
         none_fails node_document_is_text (map (λ n. of_json (node_data n)) nodes)
-        (each_passes (λ n. of_json (node_data n)) node_document_is_text nodes (each_for _ _ (λ n h. (node_is_right n h).0) nodes good.nodes))) refl
+            (each_passes (λ n. of_json (node_data n)) node_document_is_text nodes (each_for _ _ (λ n h. (node_is_right n h).0) nodes good.nodes)),
+      ) refl
 
   rows_fit : (i : ℕ) (rows : List Row) → Each IsSmallRow rows → list_all (row_fits table (length features)) (enumerate_from i rows) ≡ true
       → list_all (row_document_fits case) (enumerate_from i (map (λ r. of_json (row_data r)) rows)) ≡ true
@@ -330,8 +344,8 @@ module _ (title : List ℕ) (features : List (List ℕ)) (valid : ℕ) (nodes : 
   rows_fit i (r ∷ rs) s e =
       let parts = both_true (row_fits table (length features) (i, r)) (list_all (row_fits table (length features)) (enumerate_from (i + 1) rs)) e in
       let here : row_document_fits case (i, of_json (row_data r)) ≡ true
-          = ap (λ b. b && row_fits table (length features) (i, row_of (of_json (row_data r)))) (row_form r s.0.0 s.0.1 s.0.2)
-          ∙ ap (λ x. row_fits table (length features) (i, x)) (row_back r s.0.0 s.0.1 s.0.2) ∙ parts.0 in
+      = ap (λ b. b && row_fits table (length features) (i, row_of (of_json (row_data r)))) (row_form r s.0.0 s.0.1 s.0.2)
+      ∙ ap (λ x. row_fits table (length features) (i, x)) (row_back r s.0.0 s.0.1 s.0.2) ∙ parts.0 in
       all_true _ _ here (rows_fit (i + 1) rs s.1 parts.1)
 
   table_is : table_faults json case ≡ []
@@ -341,21 +355,26 @@ module _ (title : List ℕ) (features : List (List ℕ)) (valid : ℕ) (nodes : 
 
   ids_are : id_faults case ≡ []
   ids_are =
-      rw (none_fails (λ n. is_id case n.presence && list_all (is_id case) n.branches && list_all (is_id case) (finding_ids n.finding)) nodes
-        (each_all (λ n. is_id case n.presence && list_all (is_id case) n.branches && list_all (is_id case) (finding_ids n.finding)) nodes (each_for _ _ node_ids nodes good.nodes)),
-        good.valid, none_fails (λ r. is_id case r.presence) relations (each_all (λ r. is_id case r.presence) relations (each_for _ _ (λ r h. h.presence) relations good.relations))) refl
+      rw (
+        none_fails (λ n. is_id case n.presence && list_all (is_id case) n.branches && list_all (is_id case) (finding_ids n.finding)) nodes
+            (each_all (λ n. is_id case n.presence && list_all (is_id case) n.branches && list_all (is_id case) (finding_ids n.finding)) nodes (each_for _ _ node_ids nodes good.nodes)),
+        good.valid,
+        none_fails (λ r. is_id case r.presence) relations (each_all (λ r. is_id case r.presence) relations (each_for _ _ (λ r h. h.presence) relations good.relations)),
+      ) refl
     where
       node_ids : (n : CaseNode) → IsReadableNode case n → (is_id case n.presence && list_all (is_id case) n.branches && list_all (is_id case) (finding_ids n.finding)) ≡ true
       node_ids n h = rw (h.presence, h.branches, h.finding) refl
 
   words_are : word_faults json ≡ []
   words_are =
-      rw (listed_items node_data nodes,
+      rw (
+        listed_items node_data nodes,
         none_fails (λ n. is_some (kind_named (text_at (codes "kind") n)) && check_word_known n) (map (λ n. of_json (node_data n)) nodes)
-        (each_passes (λ n. of_json (node_data n)) (λ n. is_some (kind_named (text_at (codes "kind") n)) && check_word_known n) nodes (each_for _ _ (λ n h. (node_is_right n h).2) nodes good.nodes)),
+            (each_passes (λ n. of_json (node_data n)) (λ n. is_some (kind_named (text_at (codes "kind") n)) && check_word_known n) nodes (each_for _ _ (λ n h. (node_is_right n h).2) nodes good.nodes)),
         listed_items relation_data relations,
         none_fails (λ r. is_some (relation_named (text_at (codes "kind") r))) (map (λ r. of_json (relation_data r)) relations)
-        (each_passes (λ r. of_json (relation_data r)) (λ r. is_some (relation_named (text_at (codes "kind") r))) relations (each_for _ _ (λ r h. known r) relations good.relations))) refl
+            (each_passes (λ r. of_json (relation_data r)) (λ r. is_some (relation_named (text_at (codes "kind") r))) relations (each_for _ _ (λ r h. known r) relations good.relations)),
+      ) refl
     where
       known : (r : CaseRelation) → is_some (relation_named (text_at (codes "kind") (of_json (relation_data r)))) ≡ true
       known r = ap is_some (relation_word_back r.kind)

@@ -1,14 +1,12 @@
 -- Lists with nothing in them, and tests of all items: how the rules of a list of items become plain tests of the list.
-use Rattle.std.proofs.Common.{◌≡◌, refl, sym, ap, ◌∙◌, ℕ, suc, ◌+◌, ◌≤◌, List, [], ◌∷◌, ◌++◌, map, length, take, Bool, true, false, not, ◌&&◌, ◌||◌, ◌==◌, Option, Some, None, cond, arith}
-use Rattle.std.specs.Prelude.{nat_le, is_none, bytes_eq, if◌then◌else◌}
-use Rattle.std.specs.List.{list_all, list_any, enumerate_from}
+use Rattle.std.proofs.Common.{◌≡◌, refl, sym, ap, ◌∙◌, ℕ, suc, ◌+◌, ◌≤◌, List, [], ◌∷◌, ◌++◌, map, length, Bool, true, false, not, ◌&&◌, ◌==◌, arith}
+use Rattle.std.specs.Prelude.{nat_le, is_none}
+use Rattle.std.specs.List.{list_all, enumerate_from}
 use Rattle.std.proofs.lemmas.Bool.Decides.{nat_tests}
 use Rattle.std.proofs.lemmas.Grind.{common_steps}
-use Rattle.meaning.specs.Texts.{flat, numbered, is_name, first_of_list}
-use Rattle.meaning.specs.Documents.{Document}
-use Rattle.meaning.specs.BundlePlaces.{Part, BundleFault, Broken, requires, broken_at, where_formed, faults_at, faults_of_items, name_in, is_among, are_new}
+use Rattle.meaning.specs.Texts.{flat, first_of_list}
+use Rattle.meaning.specs.BundlePlaces.{Part, Broken, requires, faults_at}
 use Rattle.meaning.specs.LineRules.{is_within}
-use Rattle.meaning.specs.ThinTests.{items_pass}
 
 -- ---- truth values
 

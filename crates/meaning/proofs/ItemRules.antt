@@ -1,11 +1,11 @@
 -- The rules of form of a list of items: each has its form, a name that is new, and a place within the limit.
-use Rattle.std.proofs.Common.{◌≡◌, refl, sym, ap, ◌∙◌, ℕ, suc, ◌+◌, List, [], ◌∷◌, ◌++◌, map, length, take, Bool, true, false, not, ◌&&◌, ◌||◌, append_assoc, length-append, arith}
+use Rattle.std.proofs.Common.{◌≡◌, refl, sym, ap, ◌∙◌, ℕ, ◌+◌, List, [], ◌∷◌, ◌++◌, map, length, take, Bool, true, false, not, ◌&&◌, ◌||◌, append_assoc, length-append, arith}
 use Rattle.std.specs.Prelude.{nat_le, bytes_eq}
 use Rattle.std.specs.List.{list_all, enumerate_from}
 use Rattle.std.proofs.lemmas.Grind.{common_steps}
-use Rattle.meaning.specs.Texts.{flat, numbered, is_name}
+use Rattle.meaning.specs.Texts.{numbered, is_name}
 use Rattle.meaning.specs.Documents.{Document}
-use Rattle.meaning.specs.BundlePlaces.{Part, BundleFault, Broken, requires, where_formed, faults_at, faults_of_items, name_in, is_among, are_new}
+use Rattle.meaning.specs.BundlePlaces.{Part, Broken, requires, where_formed, faults_at, faults_of_items, name_in, is_among, are_new}
 use Rattle.meaning.specs.LineRules.{is_within}
 use Rattle.meaning.specs.ModelRules.{is_new_name}
 use Rattle.meaning.specs.ThinTests.{items_pass}
@@ -62,8 +62,14 @@ module _ (limit : ℕ) (test : Document → Bool) (ds : List Document) where
       (all_of_both (λ x. test x.1 && is_name (name_in x.1)) (λ x. is_new_name (map name_in ds) x.0 (name_in x.1)) (numbered ds)
       ∙ ap (λ b. b && list_all (λ x. is_new_name (map name_in ds) x.0 (name_in x.1)) (numbered ds))
       (all_of_both (λ x. test x.1) (λ x. is_name (name_in x.1)) (numbered ds)))
-      ∙ rw (all_numbered test 0 ds, all_numbered (λ d. is_name (name_in d)) 0 ds, all_mapped name_in is_name ds,
-        all_numbered_mapped name_in (is_new_name (map name_in ds)) 0 ds, new_names (map name_in ds), within) refl
+      ∙ rw (
+        all_numbered test 0 ds,
+        all_numbered (λ d. is_name (name_in d)) 0 ds,
+        all_mapped name_in is_name ds,
+        all_numbered_mapped name_in (is_new_name (map name_in ds)) 0 ds,
+        new_names (map name_in ds),
+        within,
+      ) refl
     where
       within : list_all (λ x. is_within limit x.0) (numbered ds) ≡ nat_le (length ds) limit
       within = few_items limit 0 ds (omega arith) ∙ ap (λ n. nat_le n limit) (omega arith)

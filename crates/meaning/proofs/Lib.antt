@@ -35,3 +35,4 @@ pub mod ThinGoalRules
 pub mod ThinRules
 pub mod ThinDocuments
 pub mod CaseReadsBack
+pub mod ThinReading

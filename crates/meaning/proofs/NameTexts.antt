@@ -1,11 +1,11 @@
 -- A name of the list as the text of an expression: it is that one name, and has no fault.
-use Rattle.std.proofs.Common.{◌≡◌, refl, sym, ap, ◌∙◌, subst, ℕ, suc, ◌+◌, ◌<◌, ◌≤◌, List, [], ◌∷◌, map, length, Bool, true, false, not, ◌&&◌, ◌||◌, ◌==◌, Option, Some, None, arith}
-use Rattle.std.specs.Prelude.{codes, bytes_eq, nat_le, option_map, option_and_then, if◌then◌else◌}
+use Rattle.std.proofs.Common.{◌≡◌, refl, ap, ◌∙◌, ℕ, suc, ◌<◌, List, [], ◌∷◌, length, Bool, true, false, not, ◌&&◌, ◌||◌, ◌==◌, Option, Some, None, arith}
+use Rattle.std.specs.Prelude.{bytes_eq, nat_le, option_map, option_and_then, if◌then◌else◌}
 use Rattle.std.specs.List.{list_all}
 use Rattle.std.proofs.lemmas.Bool.Decides.{nat_tests}
 use Rattle.std.proofs.lemmas.Grind.{common_steps}
 use Rattle.std.proofs.lemmas.Slice.Eq.{bytes_eq-Decides}
-use Rattle.meaning.specs.Texts.{is_letter, is_word_byte, begins_with_letter, is_name, is_text, place_of}
+use Rattle.meaning.specs.Texts.{is_word_byte, begins_with_letter, is_name, is_text, place_of}
 use Rattle.meaning.specs.Expressions.{Name, run, pieces_of, longer_run, word, tokens_of, of_imp, of_or, of_and, of_neg, of_atom, named, feature, expression_of_tokens, expression_of}
 use Rattle.meaning.specs.BundlePlaces.{is_among, text_within, or_else}
 use Rattle.meaning.specs.ExpressionFaults.{Syntax, UnknownName, word as word_lexeme, stray, an_operand, is_truth_word, placed_tokens, fault_from, expression_fault}

@@ -1,13 +1,12 @@
 -- Plain types, with no parent, no attributes and no mark: what the rules of a model see of them.
-use Rattle.std.proofs.Common.{◌≡◌, refl, sym, ap, ◌∙◌, ℕ, zero, suc, List, [], ◌∷◌, ◌++◌, map, length, Bool, true, false, not, ◌&&◌, ◌||◌, ◌==◌, Option, Some, None, append_assoc}
-use Rattle.std.specs.Prelude.{codes, is_some, option_map, option_and_then, unwrap_or}
+use Rattle.std.proofs.Common.{◌≡◌, refl, sym, ap, ◌∙◌, ℕ, zero, suc, List, [], ◌∷◌, ◌++◌, map, length, Bool, true, false, not, ◌==◌, Option, Some, None, append_assoc}
+use Rattle.std.specs.Prelude.{codes, is_some, option_map, unwrap_or}
 use Rattle.std.specs.List.{list_all, slice_get}
 use Rattle.std.proofs.lemmas.List.{append-nil}
-use Rattle.meaning.specs.Documents.{Document, member_of, list_at, truth_at, text_at, texts_in}
+use Rattle.meaning.specs.Documents.{Document, member_of, list_at, truth_at}
 use Rattle.meaning.specs.Models.{TypeDef, type_of, types_after}
 use Rattle.meaning.specs.BundlePlaces.{has, name_in}
-use Rattle.meaning.specs.ModelRules.{types_in}
-use Rattle.meaning.specs.ThinForm.{none_in, is_thin_type}
+use Rattle.meaning.specs.ThinForm.{is_thin_type}
 use Rattle.meaning.specs.ThinCases.{thin_type}
 use Rattle.meaning.proofs.EmptyLists.{both_true}
 use Rattle.meaning.proofs.ThinLineRules.{not_none}

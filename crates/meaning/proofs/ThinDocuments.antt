@@ -1,39 +1,37 @@
 -- The thin bundle that a document with one goal is.
-use Rattle.std.proofs.Common.{◌≡◌, refl, sym, ap, ◌∙◌, subst, ℕ, zero, suc, ◌+◌, ◌<◌, ◌≤◌, ◌^◌, List, [], ◌∷◌, ◌++◌, map, length, Bool, true, false, not, ◌&&◌, ◌==◌, Option, Some, None, arith}
+use Rattle.std.proofs.Common.{◌≡◌, refl, sym, ap, ◌∙◌, subst, ℕ, suc, ◌<◌, ◌≤◌, ◌^◌, List, [], ◌∷◌, map, length, Bool, true, false, not, Option, Some, None, arith}
 use Rattle.std.specs.Prelude.{codes, bytes_eq, nat_le, option_map, option_and_then, unwrap_or, if◌then◌else◌}
-use Rattle.std.specs.List.{list_all, slice_get}
+use Rattle.std.specs.List.{list_all}
 use Rattle.std.proofs.lemmas.Bool.Decides.{nat_tests}
-use Rattle.std.proofs.lemmas.Grind.{common_steps}
 use Rattle.std.proofs.lemmas.Slice.Eq.{bytes_eq-Decides}
 use Rattle.std.proofs.lemmas.List.{length-map}
 use Rattle.meaning.specs.Texts.{is_name, place_of}
-use Rattle.meaning.specs.Documents.{Document, as_text, member_of, text_at, list_at, truth_at, table_at, texts_in}
+use Rattle.meaning.specs.Documents.{Document, text_at, list_at, table_at, texts_in}
 use Rattle.meaning.specs.Expressions.{Expression, Top, expression_of}
-use Rattle.meaning.specs.Features.{Feature, Group, Optional, Line, group_of, text_member, feature_of, constraint_of, line_from, line_of, feature_names}
-use Rattle.meaning.specs.Models.{TypeDef, LinkKind, Element, Link, System, Model, condition_of, number_in, inherited, types_after, element_of, link_of, system_from, model_from, model_of, kind_of}
+use Rattle.meaning.specs.Features.{Optional, Line, group_of, feature_of, constraint_of, line_of, feature_names}
+use Rattle.meaning.specs.Models.{TypeDef, LinkKind, Element, Link, System, Model, condition_of, number_in, inherited, element_of, link_of, system_from, model_of}
 use Rattle.meaning.specs.QueryTexts.{Scope}
 use Rattle.meaning.specs.Cases.{Goal}
-use Rattle.meaning.specs.Templates.{TextPart, Words, Plain, TemplateKind, TemplateNode, Template}
+use Rattle.meaning.specs.Templates.{Template}
 use Rattle.meaning.specs.TemplateTexts.{Segment, plain, longer_plain, outside_hole, mark_of, part_of, parts_of, nodes_after, place_under, template_of, templates_of}
 use Rattle.meaning.specs.TemplateTexts as texts
 use Rattle.meaning.specs.Derivation.{Bundle, bundle_of}
-use Rattle.meaning.specs.BundlePlaces.{is_list_value, has, if_some, needs, may_have, name_in, is_among, text_of_member}
+use Rattle.meaning.specs.BundlePlaces.{has, if_some, name_in, is_among, text_of_member}
 use Rattle.meaning.specs.LineRules.{line_in, feature_names_in}
 use Rattle.meaning.specs.ModelRules.{model_in}
-use Rattle.meaning.specs.TemplateRules.{templates_in, kind_named, kind_in, is_goal, KindWord, a_goal, a_strategy, a_solution, a_context, an_assumption, a_justification, a_use, no_kind}
-use Rattle.meaning.specs.ThinForm.{none_in, no_brace, has_no_holes, is_thin_type, is_thin_element, model_is_thin, is_plain_goal}
-use Rattle.meaning.specs.ThinCases.{ThinBundle, ThinElement, IsWithinLimits, root_feature, optional_feature, thin_names, thin_line, thin_type, thin_presence, thin_element, thin_model, goal_words, thin_node, thin_template, bundle, condition}
-use Rattle.meaning.specs.ThinTests.{empty_or_absent, root_passes, other_passes, features_pass, line_passes, bundle_passes, element_passes, model_passes, goal_passes, one_goal_passes, template_passes, one_template_passes, one_goal_bundle_passes, first_name, other_names, first_text, goal_text, template_name, thin_element_in, one_goal_bundle}
+use Rattle.meaning.specs.TemplateRules.{templates_in, kind_named, is_goal, a_goal, a_strategy, a_solution, a_context, an_assumption, a_justification, a_use, no_kind}
+use Rattle.meaning.specs.ThinForm.{no_brace, is_thin_element}
+use Rattle.meaning.specs.ThinCases.{IsWithinLimits, root_feature, optional_feature, thin_line, thin_type, thin_presence, thin_element, goal_words, thin_node, thin_template, bundle, condition}
+use Rattle.meaning.specs.ThinTests.{root_passes, other_passes, features_pass, line_passes, bundle_passes, model_passes, goal_passes, one_goal_passes, one_template_passes, one_goal_bundle_passes, first_name, other_names, first_text, goal_text, template_name, thin_element_in, one_goal_bundle}
 use Rattle.meaning.proofs.EmptyLists.{both_true}
-use Rattle.meaning.proofs.ItemRules.{items_are_few}
 use Rattle.meaning.proofs.NameTexts.{name_among, place_among, name_is_expression}
 use Rattle.meaning.proofs.CutTrees.{Each}
 use Rattle.meaning.proofs.ThinModels.{map_of_map}
 use Rattle.meaning.proofs.ThinTidy.{each_member}
 use Rattle.meaning.proofs.ThinLineRules.{named_member}
-use Rattle.meaning.proofs.PlainTypes.{absent, empty_list, not_true, plain_types, plain_type_names, no_attributes}
+use Rattle.meaning.proofs.PlainTypes.{absent, empty_list, plain_types, plain_type_names, no_attributes}
 use Rattle.meaning.proofs.ThinModelRules.{BareParts, bare_parts, thin_where_passes, few_elements_in}
-use Rattle.meaning.proofs.ThinGoalRules.{GoalParts, goal_parts, plain_mark, passing_goal, passing_template}
+use Rattle.meaning.proofs.ThinGoalRules.{goal_parts, plain_mark, passing_goal, passing_template}
 use Rattle.meaning.proofs.ThinRules.{features_have_names, line_features, line_rules, line_has_names}
 
 same_text : (s : List ℕ) → bytes_eq s s ≡ true
@@ -77,12 +75,13 @@ passing_line d e =
     (features_are (list_at (codes "features") (line_in d)) (line_features (line_in d) e))
     ∙ ap (λ rs. record { features = root_feature (first_name (feature_names_in d)) ∷ map optional_feature (other_names (feature_names_in d)); constraints = map (constraint_of (feature_names_in d)) rs })
     (empty_list (list_at (codes "rules") (line_in d)) (line_rules (line_in d) e))
+
 pub names_of_line : (d : Document) → feature_names (line_of d) ≡ feature_names_in d
 unfolding line_of
 names_of_line d = map_of_map (λ f. f.name) (feature_of (feature_names_in d)) (list_at (codes "features") (line_in d))
 
 -- the names are the first and the others
-names_split : (ds : List Document) → features_pass ds ≡ true → first_name (map name_in ds) ∷ other_names (map name_in ds) ≡ map name_in ds
+pub names_split : (ds : List Document) → features_pass ds ≡ true → first_name (map name_in ds) ∷ other_names (map name_in ds) ≡ map name_in ds
 names_split [] e = absurd (let n : false ≡ true = e in cc)
 names_split (d ∷ ds) e = refl
 
@@ -193,9 +192,6 @@ goal_word : (s : List ℕ) → kind_named s ≡ a_goal → s ≡ codes "goal"
 goal_word s e = (bytes_eq-Decides s (codes "goal")).0 (go (bytes_eq s (codes "goal")) (bytes_eq s (codes "strategy")) (bytes_eq s (codes "solution")) (bytes_eq s (codes "context"))
     (bytes_eq s (codes "assumption")) (bytes_eq s (codes "justification")) (bytes_eq s (codes "use")) (ap is_goal e))
   where
-    other : false ≡ true → false ≡ true
-    other e = e
-
     go : (a b c d f g h : Bool) → is_goal (if a then a_goal else (if b then a_strategy else (if c then a_solution else (if d then a_context
         else (if f then an_assumption else (if g then a_justification else (if h then a_use else no_kind))))))) ≡ true → a ≡ true
     go true b c d f g h e = refl
@@ -212,8 +208,15 @@ module _ (m : Model) (templates ids : List (List ℕ)) where
   goal_is g e =
       let tests = passing_goal g e in
       let p = goal_parts g tests.0 in
-      rw (p.each, p.guard, p.check, p.developed, absent (codes "under") g tests.1.0, goal_word (text_at (codes "kind") g) p.kind,
-        words_of m [] (text_at (codes "text") g) tests.1.1) refl
+      rw (
+        p.each,
+        p.guard,
+        p.check,
+        p.developed,
+        absent (codes "under") g tests.1.0,
+        goal_word (text_at (codes "kind") g) p.kind,
+        words_of m [] (text_at (codes "text") g) tests.1.1,
+      ) refl
 
   nodes_are : (ns : List Document) → one_goal_passes ns ≡ true
       → map (λ p. p.node) (nodes_after m templates [] ids [] ns) ≡ thin_node Goal None (goal_words (first_text ns)) None ∷ []

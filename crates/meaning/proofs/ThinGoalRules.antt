@@ -1,22 +1,21 @@
 -- The one template of a bundle with one goal: that it breaks no rule and is thin is what its plain tests say.
-use Rattle.std.proofs.Common.{◌≡◌, refl, sym, ap, ◌∙◌, ℕ, suc, ◌+◌, List, [], ◌∷◌, ◌++◌, map, length, Bool, true, false, not, ◌&&◌, ◌||◌, ◌==◌, Option, Some, None, arith}
+use Rattle.std.proofs.Common.{◌≡◌, refl, sym, ap, ◌∙◌, ℕ, ◌+◌, List, [], ◌∷◌, ◌++◌, map, length, Bool, true, false, not, ◌&&◌, ◌||◌, ◌==◌, Option, Some, None, arith}
 use Rattle.std.specs.Prelude.{codes, is_some, option_and_then, unwrap_or}
 use Rattle.std.specs.List.{list_all}
 use Rattle.std.proofs.lemmas.Grind.{common_steps}
-use Rattle.std.proofs.lemmas.List.{append-nil}
 use Rattle.meaning.specs.Texts.{flat, numbered, is_name}
-use Rattle.meaning.specs.Documents.{Document, as_list, member_of, text_at, list_at, truth_at}
+use Rattle.meaning.specs.Documents.{Document, as_list, member_of, list_at, truth_at}
 use Rattle.meaning.specs.Models.{Model}
 use Rattle.meaning.specs.QueryTexts.{Scope}
-use Rattle.meaning.specs.TemplateTexts.{Mark, mark_of, byte}
-use Rattle.meaning.specs.BundlePlaces.{Part, Templates, Params, Nodes, BundleFault, Broken, requires, broken_at, where_formed, faults_at, faults_of_items, faults_of_items_in, is_text_value, is_list_value, has, if_there, if_some, needs, may_have, name_in, is_among, member_within, text_of_member}
+use Rattle.meaning.specs.TemplateTexts.{mark_of, byte}
+use Rattle.meaning.specs.BundlePlaces.{Part, Templates, Params, Nodes, BundleFault, Broken, requires, broken_at, faults_at, faults_of_items, faults_of_items_in, is_list_value, has, if_there, needs, may_have, name_in, member_within, text_of_member}
 use Rattle.meaning.specs.HoleFaults.{outside_hole_fault, text_hole_fault}
 use Rattle.meaning.specs.LineRules.{is_within, expression_rules}
 use Rattle.meaning.specs.ModelRules.{is_new_name, faults_in_item}
-use Rattle.meaning.specs.TemplateRules.{templates_in, template_has_form, last_has_no_parameters, has_nodes, template_form, template_rules, parameter_rules, NodeContext, context_of, id_in, kind_in, is_goal, is_use, is_solution, is_strategy, a_goal, KindWord, check_in, scope_of, node_has_form, node_texts_fit, node_form, stands_in_place, has_its_members, first_query_fault, hole_fault_of_node, check_is_right, use_is_right, place_if_any, node_rules, list_rules, faults_in_templates, node_faults, template_faults}
+use Rattle.meaning.specs.TemplateRules.{templates_in, template_has_form, last_has_no_parameters, has_nodes, template_rules, parameter_rules, NodeContext, context_of, id_in, kind_in, is_goal, is_strategy, a_goal, KindWord, check_in, scope_of, node_has_form, node_texts_fit, stands_in_place, has_its_members, first_query_fault, hole_fault_of_node, check_is_right, use_is_right, place_if_any, node_rules, node_faults, template_faults}
 use Rattle.meaning.specs.ThinForm.{none_in, no_brace, has_no_holes, has_no_more_members, is_plain_goal, is_one_goal, only_template}
 use Rattle.meaning.specs.ThinTests.{empty_or_absent, goal_passes, one_goal_passes, template_passes, one_template_passes}
-use Rattle.meaning.proofs.EmptyLists.{both_true, all_true, absorbed, with_test, nothing_in, nothing_in_both, nothing_in_flat, nothing_at, nothing_required, nothing_there}
+use Rattle.meaning.proofs.EmptyLists.{both_true, absorbed, with_test, nothing_in, nothing_in_both, nothing_at, nothing_there}
 use Rattle.meaning.proofs.ItemRules.{form_of_four, form_of_five}
 use Rattle.meaning.proofs.ThinLineRules.{not_none}
 use Rattle.meaning.proofs.PlainTypes.{absent, empty_list, not_true}
@@ -49,11 +48,11 @@ goal_kind _ e = absurd (let n : false ≡ true = e in cc)
 pub passing_goal : (g : Document) → goal_passes g ≡ true → (is_plain_goal g ≡ true) × ((not (has (codes "under") g) ≡ true) × (has_no_holes g ≡ true))
 passing_goal g e =
     let first = plain (node_has_form g) (is_name (id_in g)) (has (codes "text") g) (member_within 512 (codes "text") g) (has_no_holes g) (is_goal (kind_in g))
-        (not (has (codes "under") g)) (not (has (codes "each") g)) (has_no_more_members g) e in
+    (not (has (codes "under") g)) (not (has (codes "each") g)) (has_no_more_members g) e in
     let under = top (node_has_form g) (is_name (id_in g)) (has (codes "text") g) (member_within 512 (codes "text") g) (has_no_holes g) (is_goal (kind_in g))
-        (not (has (codes "under") g)) (not (has (codes "each") g)) (has_no_more_members g) e in
+    (not (has (codes "under") g)) (not (has (codes "each") g)) (has_no_more_members g) e in
     let holes = no_hole (node_has_form g) (is_name (id_in g)) (has (codes "text") g) (member_within 512 (codes "text") g) (has_no_holes g) (is_goal (kind_in g))
-        (not (has (codes "under") g)) (not (has (codes "each") g)) (has_no_more_members g) e in
+    (not (has (codes "under") g)) (not (has (codes "each") g)) (has_no_more_members g) e in
     (first, (under, holes))
   where
     plain : (f i t m h k u x r : Bool) → ((((((((f && i) && t) && m) && h) && k) && u) && x) && r) ≡ true → ((k && x) && r) ≡ true
@@ -64,6 +63,15 @@ passing_goal g e =
 
     no_hole : (f i t m h k u x r : Bool) → ((((((((f && i) && t) && m) && h) && k) && u) && x) && r) ≡ true → h ≡ true
     no_hole f i t m h k u x r e = grind (arith, common_steps)
+
+-- its text is within its limit
+pub goal_fits : (g : Document) → goal_passes g ≡ true → member_within 512 (codes "text") g ≡ true
+goal_fits g e =
+    go (node_has_form g) (is_name (id_in g)) (has (codes "text") g) (member_within 512 (codes "text") g) (has_no_holes g) (is_goal (kind_in g))
+    (not (has (codes "under") g)) (not (has (codes "each") g)) (has_no_more_members g) e
+  where
+    go : (f i t m h k u x r : Bool) → ((((((((f && i) && t) && m) && h) && k) && u) && x) && r) ≡ true → m ≡ true
+    go f i t m h k u x r e = grind (arith, common_steps)
 
 -- what a plain goal has and has not
 pub record GoalParts (g : Document) : Type 0 where

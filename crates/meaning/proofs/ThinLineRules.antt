@@ -5,13 +5,13 @@ use Rattle.std.specs.List.{list_all, enumerate_from}
 use Rattle.std.proofs.lemmas.Bool.Decides.{nat_tests}
 use Rattle.std.proofs.lemmas.Grind.{common_steps}
 use Rattle.std.proofs.lemmas.Slice.Eq.{bytes_eq-Decides}
-use Rattle.meaning.specs.Texts.{flat, numbered, is_name}
+use Rattle.meaning.specs.Texts.{numbered, is_name}
 use Rattle.meaning.specs.Documents.{Document, as_text, as_list, member_of, text_at, list_at}
-use Rattle.meaning.specs.BundlePlaces.{Part, Features, Rules, BundleFault, Broken, requires, where_formed, faults_at, faults_of_items, is_list_value, has, if_there, if_some, needs, may_have, name_in, is_among, text_of_member}
-use Rattle.meaning.specs.LineRules.{line_in, features_in, feature_names_in, feature_has_form, parent_is_earlier, is_group_word, kind_is_known, feature_rules, has_features, feature_faults, line_rule_rules, line_rule_faults, line_faults, is_within}
+use Rattle.meaning.specs.BundlePlaces.{Part, Features, Rules, Broken, requires, faults_at, faults_of_items, is_list_value, has, if_there, if_some, needs, may_have, name_in, is_among, text_of_member}
+use Rattle.meaning.specs.LineRules.{line_in, features_in, feature_has_form, parent_is_earlier, is_group_word, kind_is_known, feature_rules, has_features, feature_faults, line_rule_rules, line_rule_faults, line_faults, is_within}
 use Rattle.meaning.specs.ThinForm.{none_in, is_thin_feature, line_is_thin}
-use Rattle.meaning.specs.ThinTests.{empty_or_absent, items_pass, root_passes, other_passes, features_pass, line_passes}
-use Rattle.meaning.proofs.EmptyLists.{both_true, all_true, absorbed, same_both, with_test, nothing_in, nothing_in_both, nothing_there, all_of_both}
+use Rattle.meaning.specs.ThinTests.{items_pass, root_passes, other_passes, features_pass, line_passes}
+use Rattle.meaning.proofs.EmptyLists.{both_true, all_true, absorbed, same_both, nothing_in, nothing_in_both, nothing_there, all_of_both}
 use Rattle.meaning.proofs.ItemRules.{is_formed_item, item_faults, items_have_names, form_of_four}
 
 -- ---- texts of members
@@ -91,7 +91,7 @@ module _ (root : List ℕ) (named : is_name root ≡ true) where
           let parts = both_true (bytes_eq root (text_at (codes "parent") d)) (if_some (bytes_eq (codes "optional")) (text_of_member (codes "kind") d)) e in
           let there = (named_member root (codes "parent") d named parts.0).0 in
           let among : is_among (root ∷ take i ns) (text_at (codes "parent") d) ≡ true
-              = ap (λ b. b || is_among (take i ns) (text_at (codes "parent") d)) (same_bytes root (text_at (codes "parent") d) parts.0) in
+          = ap (λ b. b || is_among (take i ns) (text_at (codes "parent") d)) (same_bytes root (text_at (codes "parent") d) parts.0) in
           all_true _ _ (all_true _ _ there among) (optional_is_known (text_of_member (codes "kind") d) parts.1)
 
   others_thin : (ns : List (List ℕ)) (k : ℕ) (ds : List Document) → 0 < k

@@ -1,18 +1,18 @@
 -- The model of a thin bundle: that it breaks no rule and is thin is what its plain tests say.
-use Rattle.std.proofs.Common.{◌≡◌, refl, sym, ap, ◌∙◌, subst, ℕ, zero, suc, ◌+◌, List, [], ◌∷◌, ◌++◌, map, length, take, Bool, true, false, not, ◌&&◌, ◌||◌, ◌==◌, Option, Some, None, arith}
-use Rattle.std.specs.Prelude.{codes, bytes_eq, nat_le, is_some, option_map, option_and_then, unwrap_or}
+use Rattle.std.proofs.Common.{◌≡◌, refl, sym, ap, ◌∙◌, ℕ, List, [], ◌∷◌, ◌++◌, map, length, take, Bool, true, false, not, ◌&&◌, ◌||◌, ◌==◌, Option, Some, None, arith}
+use Rattle.std.specs.Prelude.{codes, nat_le, is_some, option_map, option_and_then, unwrap_or}
 use Rattle.std.specs.List.{list_all, slice_get}
 use Rattle.std.proofs.lemmas.Grind.{common_steps}
 use Rattle.meaning.specs.Texts.{flat, numbered, is_name, place_of}
 use Rattle.meaning.specs.Documents.{Document, as_text, member_of, text_at, list_at, truth_at, texts_in}
-use Rattle.meaning.specs.BundlePlaces.{Part, Types, Kinds, Labels, Elements, Links, Systems, States, Transitions, Owners, BundleFault, Broken, requires, broken_at, where_formed, faults_at, faults_of_items, is_text_value, is_list_value, has, if_there, if_some, needs, may_have, name_in, is_among, are_new, text_within, member_within, text_of_member}
-use Rattle.meaning.specs.ExpressionFaults.{TextFault, expression_fault, place_of_form_fault, place_of_unknown_name}
-use Rattle.meaning.specs.LineRules.{is_within, expression_fault_at, expression_rules}
-use Rattle.meaning.specs.ModelRules.{ModelContext, context_of, items_in, names_in, type_names, type_number, type_at, attributes_of, is_system_type, faults_in_list, faults_in_item, is_new_name, type_has_form, own_attributes, inherited_attributes, type_form, parent_is_earlier, type_rules, kind_has_form, end_types_are_known, kind_form, kind_rules, label_text, label_rules, element_has_form, values_given, element_texts_fit, same_texts, gives_its_attributes, element_form, element_rules, link_rules, system_rules, state_rules, transition_rules, system_elements, has_its_system, faults_in_systems, faults_of_context, model_faults}
-use Rattle.meaning.specs.ThinForm.{none_in, is_thin_type, is_thin_element, model_is_bare, model_is_thin}
+use Rattle.meaning.specs.BundlePlaces.{Part, Types, Kinds, Labels, Elements, Links, Systems, States, Transitions, Owners, BundleFault, Broken, requires, broken_at, faults_at, faults_of_items, is_text_value, is_list_value, has, if_there, if_some, needs, may_have, name_in, is_among, are_new, text_within, member_within, text_of_member}
+use Rattle.meaning.specs.ExpressionFaults.{expression_fault, place_of_form_fault, place_of_unknown_name}
+use Rattle.meaning.specs.LineRules.{is_within, expression_rules}
+use Rattle.meaning.specs.ModelRules.{ModelContext, context_of, items_in, names_in, type_names, type_number, type_at, attributes_of, is_system_type, faults_in_list, faults_in_item, is_new_name, type_has_form, own_attributes, inherited_attributes, parent_is_earlier, type_rules, kind_has_form, end_types_are_known, kind_rules, label_text, label_rules, element_has_form, values_given, element_texts_fit, same_texts, gives_its_attributes, element_rules, link_rules, system_rules, state_rules, transition_rules, system_elements, has_its_system, faults_in_systems, faults_of_context}
+use Rattle.meaning.specs.ThinForm.{none_in, is_thin_type, is_thin_element, model_is_thin}
 use Rattle.meaning.specs.ThinCases.{thin_type}
 use Rattle.meaning.specs.ThinTests.{empty_or_absent, items_pass, plain_type_passes, kind_passes, element_passes, model_passes}
-use Rattle.meaning.proofs.EmptyLists.{both_true, all_true, absorbed, with_test, nothing_in, nothing_in_both, nothing_in_flat, nothing_at, nothing_required, nothing_there, all_same, all_by, all_numbered}
+use Rattle.meaning.proofs.EmptyLists.{both_true, all_true, with_test, nothing_in, nothing_in_both, nothing_in_flat, nothing_required, nothing_there, all_same, all_by, all_numbered}
 use Rattle.meaning.proofs.ItemRules.{is_formed_item, items_pass_both, items_pass_all, items_are_few, item_faults, item_faults_where, form_of_four, form_of_five}
 use Rattle.meaning.proofs.NameTexts.{name_among, name_is_within, name_has_no_fault, place_among}
 use Rattle.meaning.proofs.ThinLineRules.{no_items_no_faults, not_none}
@@ -177,7 +177,7 @@ module _ (c : ModelContext) (plain : c.types ≡ map thin_type (names_in c (code
       let among : is_among (names_in c (codes "types")) s.0 ≡ true = ap (is_among (names_in c (codes "types"))) (sym s.2) ∙ known in
       let place = place_among (names_in c (codes "types")) s.0 among in
       let of_type : type_at c (codes "type") d ≡ Some place.0
-          = ap (option_and_then (type_number c)) s.1 ∙ ap (place_of s.0) type_names_are ∙ place.1 in
+      = ap (option_and_then (type_number c)) s.1 ∙ ap (place_of s.0) type_names_are ∙ place.1 in
       ap (if_some (λ t. same_texts (attributes_of c t) (map (λ e. e.0) (values_given d)))) of_type
       ∙ ap (λ ys. same_texts ys (map (λ e. e.0) (values_given d))) (attributes_are place.0)
       ∙ none_given (values_given d)
@@ -304,11 +304,17 @@ module _ (features : List (List ℕ)) (m : Document) (named : list_all is_name f
       (faults_in_systems c (λ x. faults_in_item States (codes "states") (state_rules c x) x))
       (faults_in_systems c (λ x. faults_in_item Transitions (codes "transitions") (transition_rules c x) x))
       (faults_of_items Owners (λ e. requires 20 (has_its_system c e.1)) (items_in c (codes "elements")))
-      ∙ rw (types_are c plain thin_types, kinds_are c plain, elements_are c plain named thin_elements, owners_are c plain,
-        empty_part c Labels (codes "labels") (label_rules c) no_labels, empty_part c Links (codes "links") (link_rules c) no_links,
+      ∙ rw (
+        types_are c plain thin_types,
+        kinds_are c plain,
+        elements_are c plain named thin_elements,
+        owners_are c plain,
+        empty_part c Labels (codes "labels") (label_rules c) no_labels,
+        empty_part c Links (codes "links") (link_rules c) no_links,
         empty_part c Systems (codes "systems") (system_rules c) none,
         no_systems_inside c (λ x. faults_in_item States (codes "states") (state_rules c x) x) none,
-        no_systems_inside c (λ x. faults_in_item Transitions (codes "transitions") (transition_rules c x) x) none)
+        no_systems_inside c (λ x. faults_in_item Transitions (codes "transitions") (transition_rules c x) x) none,
+      )
       (joined (may_have is_list_value (codes "types") m) (items_pass 256 plain_type_passes (list_at (codes "types") m))
       (may_have is_list_value (codes "kinds") m) (items_pass 256 (kind_passes (map name_in (list_at (codes "types") m))) (list_at (codes "kinds") m))
       (empty_or_absent (codes "labels") m)
@@ -342,9 +348,16 @@ module _ (features : List (List ℕ)) (m : Document) (named : list_all is_name f
       nine : {A : Type 0} (x1 x2 x3 x4 x5 x6 x7 x8 x9 : List A) → nothing_in (x1 ++ x2 ++ x3 ++ x4 ++ x5 ++ x6 ++ x7 ++ x8 ++ x9)
           ≡ (nothing_in x1 && nothing_in x2 && nothing_in x3 && nothing_in x4 && nothing_in x5 && nothing_in x6 && nothing_in x7 && nothing_in x8 && nothing_in x9)
       nine x1 x2 x3 x4 x5 x6 x7 x8 x9 =
-          rw (nothing_in_both (x1 ++ x2 ++ x3 ++ x4 ++ x5 ++ x6 ++ x7 ++ x8) x9, nothing_in_both (x1 ++ x2 ++ x3 ++ x4 ++ x5 ++ x6 ++ x7) x8,
-            nothing_in_both (x1 ++ x2 ++ x3 ++ x4 ++ x5 ++ x6) x7, nothing_in_both (x1 ++ x2 ++ x3 ++ x4 ++ x5) x6, nothing_in_both (x1 ++ x2 ++ x3 ++ x4) x5,
-            nothing_in_both (x1 ++ x2 ++ x3) x4, nothing_in_both (x1 ++ x2) x3, nothing_in_both x1 x2) refl
+          rw (
+            nothing_in_both (x1 ++ x2 ++ x3 ++ x4 ++ x5 ++ x6 ++ x7 ++ x8) x9,
+            nothing_in_both (x1 ++ x2 ++ x3 ++ x4 ++ x5 ++ x6 ++ x7) x8,
+            nothing_in_both (x1 ++ x2 ++ x3 ++ x4 ++ x5 ++ x6) x7,
+            nothing_in_both (x1 ++ x2 ++ x3 ++ x4 ++ x5) x6,
+            nothing_in_both (x1 ++ x2 ++ x3 ++ x4) x5,
+            nothing_in_both (x1 ++ x2 ++ x3) x4,
+            nothing_in_both (x1 ++ x2) x3,
+            nothing_in_both x1 x2,
+          ) refl
 
       joined : (mt it mk ik l me ie li s : Bool) → ((((((((mt && it) && (mk && ik)) && l) && (me && ie)) && li) && s) && true) && true && true)
           ≡ ((((((((mt && it) && mk) && ik) && me) && ie) && l) && li) && s)
@@ -359,11 +372,11 @@ module _ (features : List (List ℕ)) (m : Document) (named : list_all is_name f
       let by_kinds = both_true _ _ (both_true _ _ by_elements.0).0 in
       let by_types = both_true _ _ (both_true _ _ by_kinds.0).0 in
       let types : list_all is_thin_type (list_at (codes "types") m) ≡ true
-          = all_by plain_type_passes is_thin_type passing_type (list_at (codes "types") m)
-          (items_pass_all 256 plain_type_passes (list_at (codes "types") m) by_types.1) in
+      = all_by plain_type_passes is_thin_type passing_type (list_at (codes "types") m)
+      (items_pass_all 256 plain_type_passes (list_at (codes "types") m) by_types.1) in
       let elements : list_all (is_thin_element features) (list_at (codes "elements") m) ≡ true
-          = all_by (element_passes features (map name_in (list_at (codes "types") m))) (is_thin_element features) (passing_element features (map name_in (list_at (codes "types") m))) (list_at (codes "elements") m)
-          (items_pass_all 2048 (element_passes features (map name_in (list_at (codes "types") m))) (list_at (codes "elements") m) by_elements.1) in
+      = all_by (element_passes features (map name_in (list_at (codes "types") m))) (is_thin_element features) (passing_element features (map name_in (list_at (codes "types") m))) (list_at (codes "elements") m)
+      (items_pass_all 2048 (element_passes features (map name_in (list_at (codes "types") m))) (list_at (codes "elements") m) by_elements.1) in
       all_true _ _ (all_true _ _ (all_true _ _ (all_true _ _ types (both_true _ _ by_labels.1).1) (both_true _ _ by_links.1).1) (both_true _ _ by_systems.1).1) elements
 
   pub model_is_thin_model : (nothing_in (faults_of_context (context_of features m)) && model_is_thin features m) ≡ model_passes features m

@@ -1,9 +1,9 @@
 -- The plain tests of a thin bundle with one goal say neither more nor less than that no rule is broken, and that the form is thin.
-use Rattle.std.proofs.Common.{◌≡◌, refl, sym, ap, ◌∙◌, ℕ, List, [], ◌∷◌, ◌++◌, map, Bool, true, false, ◌&&◌, arith}
-use Rattle.std.specs.Prelude.{codes, is_none, if◌then◌else◌}
+use Rattle.std.proofs.Common.{◌≡◌, refl, sym, ap, ◌∙◌, List, [], ◌∷◌, ◌++◌, map, Bool, true, false, ◌&&◌, arith}
+use Rattle.std.specs.Prelude.{codes, if◌then◌else◌}
 use Rattle.std.specs.List.{list_all}
 use Rattle.std.proofs.lemmas.Grind.{common_steps}
-use Rattle.meaning.specs.Texts.{is_name, first_of_list}
+use Rattle.meaning.specs.Texts.{is_name}
 use Rattle.meaning.specs.Documents.{Document, list_at}
 use Rattle.meaning.specs.Models.{model_of}
 use Rattle.meaning.specs.BundlePlaces.{Bundle, BundleFault, requires, faults_at, is_table_value, is_list_value, needs, may_have, name_in, member_within}
