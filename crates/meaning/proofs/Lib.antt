@@ -36,3 +36,4 @@ pub mod ThinRules
 pub mod ThinDocuments
 pub mod CaseReadsBack
 pub mod ThinReading
+pub mod ThinTableFits
