@@ -123,3 +123,108 @@ module _ (n : ℕ) (rows : List Row) where
 
       seven : (a b c d e f g : Bool) → a ≡ true → b ≡ true → c ≡ true → d ≡ true → e ≡ true → f ≡ true → g ≡ true → (a && b && c && d && e && f && g) ≡ true
       seven a b c d e f g ea eb ec ed ee ef eg = rw (ea, eb, ec, ed, ee, ef, eg) refl
+
+none_of_three : (a b c : Bool) → a ≡ false → b ≡ false → c ≡ false → (a || (b || (c || false))) ≡ false
+none_of_three a b c ea eb ec = rw (ea, eb, ec) refl
+
+-- one feature more
+before_and_one : (k : ℕ) (before : List ℕ) (earlier : List Row) (f : ℕ) → (f == 0) ≡ false → AreBefore k before earlier
+    → AreBefore (k + 2) (before ++ f ∷ []) (earlier ++ feature_row f ∷ row_above k ∷ [])
+before_and_one k before earlier f z b = record {
+  no_feature = λ g y m.
+      let parts = apart g m in
+      any_both (same_row (feature_row g)) earlier (feature_row f ∷ row_above k ∷ [])
+      ∙ none_of_three (list_any (same_row (feature_row g)) earlier) (same_row (feature_row g) (feature_row f)) (same_row (feature_row g) (row_above k))
+      (b.no_feature g y parts.0) (ap (λ c. c && true && true) (turned f g parts.1)) (ap (λ c. c && true && (1 == k)) y);
+  none_above = λ j l.
+      any_both (same_row (row_above j)) earlier (feature_row f ∷ row_above k ∷ [])
+      ∙ none_of_three (list_any (same_row (row_above j)) earlier) (same_row (row_above j) (feature_row f)) (same_row (row_above j) (row_above k))
+      (b.none_above j (omega (arith, l))) (ap (λ c. c && true && (j == 1)) (turned f 0 z)) (other j k l);
+}
+  where
+    other : (j k : ℕ) → k + 2 ≤ j → (j == k) ≡ false
+    other j k l = grind (arith, nat_tests)
+
+    apart : (g : ℕ) → is_met g (before ++ f ∷ []) ≡ false → (is_met g before ≡ false) × ((f == g) ≡ false)
+    apart g m = go (is_met g before) (f == g) (sym (any_both (λ x. x == g) before (f ∷ [])) ∙ m)
+      where
+        go : (a b : Bool) → (a || (b || false)) ≡ false → (a ≡ false) × (b ≡ false)
+        go false false e = (refl, refl)
+        go false true e = absurd (let n : true ≡ false = e in cc)
+        go true b e = absurd (let n : true ≡ false = e in cc)
+
+some_number : (f : ℕ) → (f == 0) ≡ false → nat_lt 0 f ≡ true
+some_number f e = grind (arith, nat_tests)
+
+is_true : (a : Bool) → not a ≡ true → a ≡ false
+is_true true e = sym e
+is_true false e = refl
+
+module _ (n : ℕ) (root : nat_lt 0 n ≡ true) (rows : List Row) where
+  rows_from : (k i : ℕ) (before : List ℕ) (earlier : List Row) (fs : List ℕ) → rows ≡ earlier ++ feature_rows k fs → i ≡ length earlier → k ≡ i + 2
+      → are_fresh n before fs ≡ true → AreBefore k before earlier
+      → list_all (row_fits rows n) (enumerate_from i (feature_rows k fs)) ≡ true
+  rows_from k i before earlier [] e l at fresh b = refl
+  rows_from k i before earlier (f ∷ fs) e l at fresh b =
+      let parts = both_true (not (f == 0) && nat_lt f n && not (is_met f before)) (are_fresh n (before ++ f ∷ []) fs) fresh in
+      let first = both_true (not (f == 0) && nat_lt f n) (not (is_met f before)) parts.0 in
+      let inner = both_true (not (f == 0)) (nat_lt f n) first.0 in
+      let z : (f == 0) ≡ false = is_true (f == 0) inner.0 in
+      let m : is_met f before ≡ false = is_true (is_met f before) first.1 in
+      let rest : List Row = row_above k ∷ feature_rows (k + 2) fs in
+      let e2 : rows ≡ (earlier ++ feature_row f ∷ []) ++ rest = e ∙ sym (append_assoc earlier (feature_row f ∷ []) rest) in
+      let e3 : rows ≡ (earlier ++ feature_row f ∷ row_above k ∷ []) ++ feature_rows (k + 2) fs
+          = e ∙ sym (append_assoc earlier (feature_row f ∷ row_above k ∷ []) (feature_rows (k + 2) fs)) in
+      let new : list_any (same_row (row_above k)) (earlier ++ feature_row f ∷ []) ≡ false
+          = any_both (same_row (row_above k)) earlier (feature_row f ∷ [])
+          ∙ two (list_any (same_row (row_above k)) earlier) (same_row (row_above k) (feature_row f)) (b.none_above k (omega arith)) (ap (λ c. c && true && (k == 1)) (turned f 0 z)) in
+      let count : length (earlier ++ feature_row f ∷ row_above k ∷ []) ≡ length earlier + 2 = length-append earlier (feature_row f ∷ row_above k ∷ []) in
+      all_true _ _ (feature_fits n rows f i earlier (feature_row f ∷ rest) e l inner.1 (b.no_feature f z m))
+      (all_true _ _ (above_fits n rows f i k earlier rest e2 l at root (some_number f z) new)
+      (rows_from (k + 2) (i + 1 + 1) (before ++ f ∷ []) (earlier ++ feature_row f ∷ row_above k ∷ []) fs e3 (omega (arith, l, count)) (omega (arith, at)) parts.1
+      (before_and_one k before earlier f z b)))
+    where
+      two : (a b : Bool) → a ≡ false → b ≡ false → (a || (b || false)) ≡ false
+      two a b ea eb = rw (ea, eb) refl
+
+-- every row of the table fits
+pub thin_rows_fit : (n : ℕ) (met : List ℕ) → nat_lt 0 n ≡ true → are_fresh n [] met ≡ true → list_all (row_fits (thin_table met) n) (numbered (thin_table met)) ≡ true
+thin_rows_fit n met root fresh =
+    all_true _ _ first (rows_from n root (thin_table met) 3 1 [] (root_row ∷ []) met refl refl refl fresh start)
+  where
+    first : row_fits (thin_table met) n (0, root_row) ≡ true
+    first = rw root refl
+
+    start : AreBefore 3 [] (root_row ∷ [])
+    start = record {
+      no_feature = λ f z m. ap (λ c. (c && true && true) || false) z;
+      none_above = λ j l. ap (λ c. c || false) (past j l);
+    }
+      where
+        past : (j : ℕ) → 3 ≤ j → (j == 1) ≡ false
+        past j l = grind (arith, nat_tests)
+
+-- ---- ids
+
+pub rows_counted : (k : ℕ) (fs : List ℕ) → length (feature_rows k fs) ≡ 2 * length fs
+rows_counted k [] = refl
+rows_counted k (f ∷ fs) = let e : length (feature_rows (k + 2) fs) ≡ 2 * length fs = rows_counted (k + 2) fs in omega (arith, e)
+
+id_below : (k : ℕ) (gs : List ℕ) (f : ℕ) → 2 ≤ k → id_from k gs f + 2 ≤ k + 2 * length gs
+id_below k [] f l = omega (arith, l)
+id_below k (g ∷ gs) f l = go (g == f) (id_below (k + 2) gs f (omega (arith, l)))
+  where
+    go : (b : Bool) → id_from (k + 2) gs f + 2 ≤ k + 2 + 2 * length gs → (if b then k else id_from (k + 2) gs f) + 2 ≤ k + 2 * suc (length gs)
+    go true i = omega arith
+    go false i = omega (arith, i)
+
+pub condition_id_fits : (met : List ℕ) (f : ℕ) → nat_lt (condition_id met f) (length (thin_table met) + 2) ≡ true
+condition_id_fits met f = go (f == 0) (id_below 4 met f (omega arith)) (rows_counted 3 met)
+  where
+    less : (a b : ℕ) → a < b → nat_lt a b ≡ true
+    less a b l = grind (arith, nat_tests)
+
+    go : (b : Bool) → id_from 4 met f + 2 ≤ 4 + 2 * length met → length (feature_rows 3 met) ≡ 2 * length met
+        → nat_lt (if b then 2 else id_from 4 met f) (suc (length (feature_rows 3 met)) + 2) ≡ true
+    go true i e = less 2 (suc (length (feature_rows 3 met)) + 2) (omega (arith, e))
+    go false i e = less (id_from 4 met f) (suc (length (feature_rows 3 met)) + 2) (omega (arith, i, e))
