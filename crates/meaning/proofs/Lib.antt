@@ -37,3 +37,4 @@ pub mod ThinDocuments
 pub mod CaseReadsBack
 pub mod ThinReading
 pub mod ThinTableFits
+pub mod ThinCasesRead
