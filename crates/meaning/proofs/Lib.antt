@@ -38,3 +38,4 @@ pub mod CaseReadsBack
 pub mod ThinReading
 pub mod ThinTableFits
 pub mod ThinCasesRead
+pub mod EachTexts

@@ -8,20 +8,24 @@ use Rattle.std.proofs.lemmas.Grind.{common_steps}
 use Rattle.std.proofs.lemmas.List.{length-map}
 use Rattle.std.proofs.lemmas.Str.Parse.{digit_from_value}
 use Rattle.meaning.specs.Texts.{is_text, numbered}
-use Rattle.meaning.specs.Documents.{of_json}
+use Rattle.meaning.specs.Documents.{Json, document_of, of_json}
 use Rattle.meaning.specs.Models.{is_a}
 use Rattle.meaning.specs.CaseFiles.{CasePart, words, count, CaseNode, CaseRelation, CaseDocument}
-use Rattle.meaning.specs.CaseBytes.{case_data}
-use Rattle.meaning.specs.CaseReading.{bad_names, part_is_text, row_fits, is_id, read_document, Is}
+use Rattle.meaning.specs.CaseBytes.{case_data, case_bytes}
+use Rattle.meaning.specs.CaseReading.{bad_names, part_is_text, row_fits, is_id, read_document, read_case, Is}
 use Rattle.meaning.specs.Templates.{joined_parts, in_front}
-use Rattle.meaning.specs.ThinCases.{ThinBundle, ThinElement, Enumeration, NamePart, Literal, ElementName, IsWithinLimits, thin_names, thin_type, condition, element_conditions, condition_id, met_after, thin_table, feature_rows, elements_over, named_part, goal_case_node, strategy_case_node, element_case_node, case_relation, strategy_relations, enumerating_case, case_over, thin_case, thin_case_of}
+use Rattle.meaning.specs.Headline.{IsBuildOf}
+use Rattle.meaning.specs.Answers.{IsBuilt}
+use Rattle.meaning.specs.Stages.{building_thin}
+use Rattle.meaning.specs.ThinCases.{ThinBundle, bundle, ThinElement, Enumeration, NamePart, Literal, ElementName, IsWithinLimits, thin_names, thin_type, condition, element_conditions, condition_id, met_after, thin_table, feature_rows, elements_over, named_part, goal_case_node, strategy_case_node, element_case_node, case_relation, strategy_relations, enumerating_case, case_over, thin_case, thin_case_of}
 use Rattle.meaning.proofs.EmptyLists.{both_true, all_true}
 use Rattle.meaning.proofs.CutTrees.{Each}
 use Rattle.meaning.proofs.ThinModels.{each_filtered}
-use Rattle.meaning.proofs.ThinTidy.{each_mapped}
+use Rattle.meaning.proofs.ThinTidy.{each_mapped, each_member}
 use Rattle.meaning.proofs.ThinNodes.{numbers_below, short_strategy_key, short_key, element_key, digits_of_key}
+use Rattle.meaning.proofs.ThinBuild.{thin_is_build}
 use Rattle.meaning.proofs.CaseReadsBack.{IsReadable, IsReadableNode, IsReadableRelation, each_for, case_reads_back}
-use Rattle.meaning.proofs.ThinReading.{goal_case_is_readable}
+use Rattle.meaning.proofs.ThinReading.{goal_case_is_readable, thin_has_product}
 use Rattle.meaning.proofs.ThinTableFits.{are_fresh, met_is_fresh, few_met, rows_counted, thin_rows_fit, condition_id_fits}
 
 -- ---- what a thin bundle needs
@@ -233,3 +237,26 @@ thin_case_is_readable b good (Some x) p = strategy_case_is_readable b x good p.0
 pub thin_case_reads : (b : ThinBundle) → IsProperThin b → read_document (Some (of_json (case_data (thin_case b)))) ≡ Is (thin_case b)
 unfolding thin_case
 thin_case_reads b good = case_reads_back (thin_case_of b b.enumeration) (thin_case_is_readable b good b.enumeration good.parts)
+
+-- ---- so its bytes are a build
+
+pub proper_is_within : (b : ThinBundle) → IsProperThin b → IsWithinLimits b
+proper_is_within b good =
+    let few : length b.elements ≤ 2048 = good.few_elements in
+    record {
+      few_elements = omega (arith, few);
+      features_known = λ e c. each_member (λ x. condition x < length (thin_names b)) b.elements good.features e c;
+    }
+
+pub thin_is_built : (b : ThinBundle) (bytes : List ℕ) → IsProperThin b → bytes ≡ case_bytes (thin_case b)
+    → document_of Json bytes ≡ Some (of_json (case_data (thin_case b))) → IsBuilt building_thin (bundle b) bytes
+unfolding read_case
+thin_is_built b bytes good written reads =
+    let read_back : read_case bytes ≡ Is (thin_case b) = ap read_document reads ∙ thin_case_reads b good in
+    let build = thin_is_build b (proper_is_within b good) (subst (λ s. read_case s ≡ Is (thin_case b)) written read_back) in
+    record {
+      product = thin_has_product b;
+      few = λ h. absurd (let n : false ≡ true = h in cc);
+      build = subst (λ s. IsBuildOf s (bundle b)) (sym written) build;
+      short = λ h. absurd (let n : false ≡ true = h in cc);
+    }
