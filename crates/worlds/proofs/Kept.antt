@@ -1,5 +1,5 @@
 -- What stays over several calls, and what a later moment knows of an earlier one.
-use Rattle.std.proofs.Common.{◌≡◌, ℕ, ◌+◌, ◌≤◌, ◌<◌, ◌⊎◌, inl, inr, List, Bool, true, length, refl, sym, ◌∙◌, arith}
+use Rattle.std.proofs.Common.{◌≡◌, ℕ, ◌+◌, ◌≤◌, inl, inr, List, Bool, true, length, refl, sym, ◌∙◌, arith}
 use Rattle.std.proofs.lemmas.Bool.{cases_lt}
 use Rattle.meaning.specs.Counts.{counted, greatest_count, Rose}
 use Rattle.worlds.specs.Algebra.{Algebra, Kept, Worked, HoldsWhere, IsRefusal, Raised, Stops}

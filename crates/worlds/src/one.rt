@@ -1,6 +1,7 @@
 //! Conditions over one world, each its truth there.
 
 ghost use Rattle.std.specs.Prelude.{◌≡◌, ◌≤◌, length};
+ghost use Rattle.meaning.specs.Counts.{counted};
 
 use crate::stops::NodeLimit;
 use crate::worlds::Worlds;
@@ -46,22 +47,22 @@ impl<'a> Worlds for One<'a> {
     }
 
     fn feature(&mut self, f: u16) -> Result<bool, NodeLimit> {
-        self.asked = self.asked.saturating_add(1);
+        self.asked = one_more(self.asked);
         Ok(self.world[usize::from(f)])
     }
 
     fn both(&mut self, a: bool, b: bool) -> Result<bool, NodeLimit> {
-        self.asked = self.asked.saturating_add(1);
+        self.asked = one_more(self.asked);
         Ok(a && b)
     }
 
     fn either(&mut self, a: bool, b: bool) -> Result<bool, NodeLimit> {
-        self.asked = self.asked.saturating_add(1);
+        self.asked = one_more(self.asked);
         Ok(a || b)
     }
 
     fn without(&mut self, a: bool, b: bool) -> Result<bool, NodeLimit> {
-        self.asked = self.asked.saturating_add(1);
+        self.asked = one_more(self.asked);
         Ok(a && !b)
     }
 
@@ -87,4 +88,11 @@ impl<'a> Worlds for One<'a> {
     fn asked(&self) -> u64 {
         self.asked
     }
+}
+
+/// The count after one more call. It stands still at its greatest value.
+fn one_more(count: u64) -> u64
+    ensures { result ≡ counted count 1 }
+{
+    count.saturating_add(1)
 }

@@ -45,10 +45,22 @@ fn sample(alloc: Global, operator: u8) -> Result<(Expr, &'static str), AllocErro
         1 => (Expr::Bottom, "00000000"),
         2 => (Expr::Name(1), "00110011"),
         3 => (Expr::Not(third), "10101010"),
-        4 => (Expr::Both(Box::new(alloc, Expr::Name(0))?, third), "00000101"),
-        5 => (Expr::Either(Box::new(alloc, Expr::Name(0))?, third), "01011111"),
-        6 => (Expr::Implies(Box::new(alloc, Expr::Name(0))?, third), "11110101"),
-        _ => (Expr::Same(Box::new(alloc, Expr::Name(0))?, third), "10100101"),
+        4 => (
+            Expr::Both(Box::new(alloc, Expr::Name(0))?, third),
+            "00000101",
+        ),
+        5 => (
+            Expr::Either(Box::new(alloc, Expr::Name(0))?, third),
+            "01011111",
+        ),
+        6 => (
+            Expr::Implies(Box::new(alloc, Expr::Name(0))?, third),
+            "11110101",
+        ),
+        _ => (
+            Expr::Same(Box::new(alloc, Expr::Name(0))?, third),
+            "10100101",
+        ),
     })
 }
 
@@ -60,8 +72,16 @@ fn conditions_are_the_truth_of_their_expressions(rt: HostRuntime) -> Result<(), 
             let world = [number & 4 != 0, number & 2 != 0, number & 1 != 0];
             let told = digit == b'1';
             assert_eq!(rt; truth(&e, &world), told, "{operator} at {number}");
-            assert_eq!(rt; truth_by_condition(&e, &world), told, "{operator} at {number}");
-            assert_eq!(rt; holds_by_condition(&e, &world, &mut One::new(&world)), Ok(told), "{operator} at {number}");
+            assert_eq!(rt;
+                truth_by_condition(&e, &world),
+                told,
+                "{operator} at {number}"
+            );
+            assert_eq!(rt;
+                holds_by_condition(&e, &world, &mut One::new(&world)),
+                Ok(told),
+                "{operator} at {number}"
+            );
         }
     }
     Ok(())

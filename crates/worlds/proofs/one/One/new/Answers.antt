@@ -1,6 +1,4 @@
-use Rattle.std.proofs.Common.{refl, ◌≡◌, true}
-use Rattle.std.specs.Cmp.Lexicographic.{pointwise}
-use Rattle.std.specs.Bool.{beq}
+use Rattle.std.proofs.Common.{refl}
 use Rattle.worlds.proofs.OneWorld.{same_list, itself}
 use Rattle.worlds.proofs.one.One.new.Goals as goal
 
