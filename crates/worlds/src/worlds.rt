@@ -38,7 +38,7 @@ pub trait Worlds {
         requires { f < (algebra self.old).count }
         ensures kept { Kept (algebra self.old) (algebra self.new) }
         ensures asked { (algebra self.new).asked ≡ counted (algebra self.old).asked 1 }
-        ensures counts { (algebra self.new).refused ≡ refusals_after result (algebra self.old).refused }
+        ensures refusals { (algebra self.new).refused ≡ refusals_after result (algebra self.old).refused }
         ensures made { IfOk result (λ c. HoldsWhere (algebra self.new) c (λ x. holds_at x f)) }
         ensures refused { IfErr result (IsRefusal (algebra self.old) (algebra self.new)) };
 
@@ -48,7 +48,7 @@ pub trait Worlds {
         requires b_live { (algebra self.old).live b }
         ensures kept { Kept (algebra self.old) (algebra self.new) }
         ensures asked { (algebra self.new).asked ≡ counted (algebra self.old).asked 1 }
-        ensures counts { (algebra self.new).refused ≡ refusals_after result (algebra self.old).refused }
+        ensures refusals { (algebra self.new).refused ≡ refusals_after result (algebra self.old).refused }
         ensures made { IfOk result (λ c. HoldsWhere (algebra self.new) c (λ x. (algebra self.old).holds a x && (algebra self.old).holds b x)) }
         ensures refused { IfErr result (IsRefusal (algebra self.old) (algebra self.new)) };
 
@@ -58,7 +58,7 @@ pub trait Worlds {
         requires b_live { (algebra self.old).live b }
         ensures kept { Kept (algebra self.old) (algebra self.new) }
         ensures asked { (algebra self.new).asked ≡ counted (algebra self.old).asked 1 }
-        ensures counts { (algebra self.new).refused ≡ refusals_after result (algebra self.old).refused }
+        ensures refusals { (algebra self.new).refused ≡ refusals_after result (algebra self.old).refused }
         ensures made { IfOk result (λ c. HoldsWhere (algebra self.new) c (λ x. (algebra self.old).holds a x || (algebra self.old).holds b x)) }
         ensures refused { IfErr result (IsRefusal (algebra self.old) (algebra self.new)) };
 
@@ -68,7 +68,7 @@ pub trait Worlds {
         requires b_live { (algebra self.old).live b }
         ensures kept { Kept (algebra self.old) (algebra self.new) }
         ensures asked { (algebra self.new).asked ≡ counted (algebra self.old).asked 1 }
-        ensures counts { (algebra self.new).refused ≡ refusals_after result (algebra self.old).refused }
+        ensures refusals { (algebra self.new).refused ≡ refusals_after result (algebra self.old).refused }
         ensures made { IfOk result (λ c. HoldsWhere (algebra self.new) c (λ x. (algebra self.old).holds a x && not ((algebra self.old).holds b x))) }
         ensures refused { IfErr result (IsRefusal (algebra self.old) (algebra self.new)) };
 
