@@ -6,10 +6,10 @@ use Rattle.std.proofs.lemmas.Bool.Decides.{nat_tests}
 use Rattle.serde_json.specs.Data.{Data, string}
 use Rattle.meaning.specs.Texts.{numbered, is_text}
 use Rattle.meaning.specs.Documents.{Document, listed, items_of_json, of_json, as_natural, texts_in, list_at, member_of, text_at}
-use Rattle.meaning.specs.Cases.{NodeKind, Goal, Strategy, Solution, Context, Assumption, Justification, RelationKind, SupportedBy, InContextOf, kind_word, argues}
+use Rattle.meaning.specs.Cases.{NodeKind, Goal, Strategy, Solution, Context, Assumption, Justification, RelationKind, SupportedBy, InContextOf, kind_word, argues, is_solution}
 use Rattle.meaning.specs.CaseFiles.{Row, CasePart, words, count, CaseNode, CaseRelation, CaseSystem, CaseDocument, Finding}
 use Rattle.meaning.specs.CaseBytes.{items_of, natural_data, part_data, row_data, node_data, relation_data, relation_word, case_data}
-use Rattle.meaning.specs.CaseReading.{part_of, row_of, node_of, relation_of, kind_named, relation_named, naturals_in, case_document_of, failing, is_text_value, is_natural_value, is_zero_value, is_node, is_relation, is_triple, form_faults, bad_names, part_is_text, node_is_text, node_document_is_text, row_fits, row_document_fits, is_id, check_word_known, is_solution, is_strategy, no_branches, expression_in, finding_fits, node_fits, past, finding_ids, faults_at, Nodes, Table, Relations, text_faults, table_faults, id_faults, word_faults, end_faults, limit_faults, faults_within, read_document, Is}
+use Rattle.meaning.specs.CaseReading.{part_of, row_of, node_of, relation_of, kind_named, relation_named, naturals_in, case_document_of, failing, is_text_value, is_natural_value, is_zero_value, is_node, is_relation, is_triple, form_faults, bad_names, part_is_text, node_is_text, node_document_is_text, row_fits, row_document_fits, is_id, check_word_known, is_strategy, no_branches, expression_in, finding_fits, node_fits, past, finding_ids, faults_at, Nodes, Table, Relations, text_faults, table_faults, id_faults, word_faults, end_faults, limit_faults, faults_within, read_document, Is}
 use Rattle.meaning.proofs.EmptyLists.{both_true, all_true}
 use Rattle.meaning.proofs.CutTrees.{Each}
 

@@ -1,6 +1,6 @@
 -- Every thin case whose names and texts keep their rules reads back: with one goal, and with a strategy over elements.
 use Rattle.std.proofs.Common.{◌≡◌, refl, sym, ap, ◌∙◌, subst, ℕ, suc, ◌+◌, ◌*◌, ◌<◌, ◌≤◌, ◌^◌, List, [], ◌∷◌, ◌++◌, map, length, Bool, true, false, not, ◌&&◌, ◌==◌, cond, Option, Some, None, arith}
-use Rattle.std.specs.Prelude.{⊤, codes, decimal, nat_lt, nat_le, filter}
+use Rattle.std.specs.Prelude.{⊤, decimal, nat_lt, nat_le, filter}
 use Rattle.std.specs.List.{list_all, enumerate_from}
 use Rattle.std.specs.Str.Parse.{AllDigits}
 use Rattle.std.proofs.lemmas.Bool.Decides.{nat_tests}
@@ -10,14 +10,14 @@ use Rattle.std.proofs.lemmas.Str.Parse.{digit_from_value}
 use Rattle.meaning.specs.Texts.{is_text, numbered}
 use Rattle.meaning.specs.Documents.{Json, document_of, of_json}
 use Rattle.meaning.specs.Models.{is_a}
-use Rattle.meaning.specs.CaseFiles.{CasePart, words, count, CaseNode, CaseRelation, CaseDocument}
+use Rattle.meaning.specs.CaseFiles.{CasePart, words, count, CaseDocument}
 use Rattle.meaning.specs.CaseBytes.{case_data, case_bytes}
-use Rattle.meaning.specs.CaseReading.{bad_names, part_is_text, row_fits, is_id, read_document, read_case, Is}
+use Rattle.meaning.specs.CaseReading.{bad_names, part_is_text, is_id, read_document, read_case, Is}
 use Rattle.meaning.specs.Templates.{joined_parts, in_front}
 use Rattle.meaning.specs.Headline.{IsBuildOf}
 use Rattle.meaning.specs.Answers.{IsBuilt}
 use Rattle.meaning.specs.Stages.{building_thin}
-use Rattle.meaning.specs.ThinCases.{ThinBundle, bundle, ThinElement, Enumeration, NamePart, Literal, ElementName, IsWithinLimits, thin_names, thin_type, condition, element_conditions, condition_id, met_after, thin_table, feature_rows, elements_over, named_part, goal_case_node, strategy_case_node, element_case_node, case_relation, strategy_relations, enumerating_case, case_over, thin_case, thin_case_of}
+use Rattle.meaning.specs.ThinCases.{ThinBundle, bundle, ThinElement, Enumeration, NamePart, Literal, ElementName, IsWithinLimits, thin_names, thin_type, condition, element_conditions, condition_id, met_after, thin_table, feature_rows, elements_over, named_part, goal_case_node, strategy_case_node, element_case_node, strategy_relations, enumerating_case, thin_case, thin_case_of}
 use Rattle.meaning.proofs.EmptyLists.{both_true, all_true}
 use Rattle.meaning.proofs.CutTrees.{Each}
 use Rattle.meaning.proofs.ThinModels.{each_filtered}

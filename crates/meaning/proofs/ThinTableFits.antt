@@ -1,5 +1,5 @@
 -- The table of a thin case is one that a case document may have: rows that fit, of features that are met once each.
-use Rattle.std.proofs.Common.{◌≡◌, refl, sym, ap, ◌∙◌, subst, ℕ, zero, suc, ◌+◌, ◌*◌, ◌<◌, ◌≤◌, List, [], ◌∷◌, ◌++◌, map, length, take, Bool, true, false, not, ◌&&◌, ◌||◌, ◌==◌, Option, Some, None, append_assoc, length-append, arith}
+use Rattle.std.proofs.Common.{◌≡◌, refl, sym, ap, ◌∙◌, ℕ, suc, ◌+◌, ◌*◌, ◌<◌, ◌≤◌, List, [], ◌∷◌, ◌++◌, length, take, Bool, true, false, not, ◌&&◌, ◌||◌, ◌==◌, Some, append_assoc, length-append, arith}
 use Rattle.std.specs.Prelude.{nat_lt, option_map, unwrap_or, if◌then◌else◌}
 use Rattle.std.specs.List.{list_all, list_any, slice_get, enumerate_from}
 use Rattle.std.proofs.lemmas.Bool.Decides.{nat_tests}
