@@ -148,6 +148,7 @@ mod tests {
         );
         let mut out = StreamSink::new(io::writer(&rt));
         assert_eq!(rt; write_whole(&mut out, bytes.as_slice()), Ok(()));
+        fs::remove_file(&rt, "small.json")?;
         Ok(())
     }
 }
