@@ -1,6 +1,9 @@
 -- What a `Doc` of each form stands for, and lists beside the documents and members that they are.
-use Rattle.std.proofs.Common.{◌≡◌, ℕ, ℤ, Bool, List, [], ◌∷◌, map, Some, None, Option, option_map, refl, sym, ap, ◌∙◌, rules}
-use Rattle.meaning.specs.Documents.{Document, text, number, truth, list, table, other, Documents, Members, listed, entries, as_list, as_table}
+use Rattle.std.proofs.Common.{◌≡◌, ℕ, ℤ, Bool, List, [], ◌∷◌, Some, option_map, String, Vec, BTreeMap, Global, refl, sym, ap, ◌∙◌, rules}
+use Rattle.serde_json.specs.declared.value.Value.{Value, Array, Object}
+use Rattle.serde_json.specs.View.{view, items_view, members_view}
+use Rattle.serde_json.proofs.Views.{view-Array, view-Object}
+use Rattle.meaning.specs.Documents.{Document, text, number, truth, list, table, other, Documents, Members, listed, entries, as_list, as_table, of_json, items_of_json, members_of_json}
 use Rattle.meaning.specs.Documents as meaning
 use Rattle.doc_tree.specs.declared.doc.Doc.{Doc, the_lemmas}
 use Rattle.doc_tree.specs.declared.doc.Doc.TheVariants as doc
@@ -63,3 +66,16 @@ document-List-at d docs ds e same = ap document e ∙ document-List docs ∙ ap 
 
 pub document-Table-at : (d : Doc) (es : List (List ℕ × Doc)) (ms : Members) → d ≡ doc.Table es → members es ≡ entries ms → document d ≡ table ms
 document-Table-at d es ms e same = ap document e ∙ document-Table es ∙ ap (λ xs. table (members_of xs)) same ∙ ap table (members_of-entries ms)
+
+-- ---- a value of JSON
+
+pub document-array : (v : Value) (xs : Vec Value Global) (items : List Value) (docs : List Doc) → v ≡ Array xs → items ≡ xs.items
+    → documents docs ≡ listed (items_of_json (items_view items)) → document (doc.List docs) ≡ of_json (view v)
+document-array v xs items docs e same is =
+    document-List-at _ docs (items_of_json (items_view items)) refl is
+    ∙ sym (ap (λ x. of_json (view x)) e ∙ ap of_json (view-Array xs) ∙ ap (λ vs. list (items_of_json (items_view vs))) (sym same))
+
+pub document-object : (v : Value) (m : BTreeMap (String Global) Value) (es : List (List ℕ × Doc)) → v ≡ Object m
+    → members es ≡ entries (members_of_json (members_view m.entries)) → document (doc.Table es) ≡ of_json (view v)
+document-object v m es e is =
+    document-Table-at _ es (members_of_json (members_view m.entries)) refl is ∙ sym (ap (λ x. of_json (view x)) e ∙ ap of_json (view-Object m))

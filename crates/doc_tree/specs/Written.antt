@@ -4,8 +4,8 @@ use Rattle.serde_json.specs.Data as json
 use Rattle.serde_json.specs.Find.{of_integer}
 use Rattle.serde_json.specs.View.{items_of}
 use Rattle.serde_json.specs.Written.{compact_text, has_float, items_have_float, members_have_float}
-use Rattle.meaning.specs.Documents.{Document, text, number, truth, list, table, other, Documents, no_documents, document, Members, no_members, member, of_json, items_of_json, members_of_json}
-use Rattle.doc_tree.specs.View.{documents_of, members_of}
+use Rattle.meaning.specs.Documents.{Document, text, number, truth, list, table, other, Documents, no_documents, document, Members, no_members, member, entries, of_json, members_of_json}
+use Rattle.doc_tree.specs.View.{members_of}
 
 -- the value of JSON that a document is written as; another kind of value has none of its own
 abbrev mutual
@@ -47,10 +47,10 @@ pub record StandsFor (v : json.Data) (d : Document) : Type 0 where
 
 pub record ItemsStandFor (vs : List json.Data) (ds : List Document) : Type 0 where
   pub value : vs ≡ map data_of ds
-  pub back : items_of_json (items_of vs) ≡ documents_of ds
+  pub back : map of_json vs ≡ ds
   pub no_float : items_have_float (items_of vs) ≡ false
 
 pub record MembersStandFor (vs : json.Members) (es : List (List ℕ × Document)) : Type 0 where
   pub value : vs ≡ members_data (members_of es)
-  pub back : members_of_json vs ≡ members_of es
+  pub back : entries (members_of_json vs) ≡ es
   pub no_float : members_have_float vs ≡ false

@@ -1,5 +1,6 @@
-ghost use Rattle.std.specs.Prelude.{◌≡◌, ◌≤◌, ◌∷◌, [], ◌++◌, IfOk, IsTrue, Some, map};
+ghost use Rattle.std.specs.Prelude.{◌≡◌, ◌≤◌, ◌++◌, IfOk, IsTrue, Some, map};
 ghost use Rattle.serde_json.specs.View.{view, members_view};
+ghost use Rattle.meaning.specs.Cases.{newline};
 ghost use Rattle.meaning.specs.Documents.{Json, document_of};
 ghost use Rattle.doc_tree.specs.View.{document, documents, documents_of, members, members_of};
 ghost use Rattle.doc_tree.specs.Order.{is_in_order, items_in_order, names_rise, values_in_order, has_no_other, items_have_no_other, values_have_no_other, nesting, most_nesting};
@@ -21,7 +22,7 @@ impl Doc {
         ensures reads_back { IfOk result
             (λ v. document_of Json v.items ≡ Some (document self.now)) }
         ensures reads_back_line { IfOk result
-            (λ v. document_of Json (v.items ++ 10 ∷ []) ≡ Some (document self.now)) }
+            (λ v. document_of Json (v.items ++ newline) ≡ Some (document self.now)) }
     {
         let value = value_from(alloc, self)?;
         let text = value.to_string(alloc)?;
