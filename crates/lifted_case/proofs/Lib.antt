@@ -1,1 +1,5 @@
 pub mod Plain
+pub mod CaseShape
+pub mod Writing
+pub mod ConditionIds
+pub mod OneGoal

@@ -14,7 +14,7 @@ both_true true b h = (refl, h)
 both_true false b h = cc
 
 -- a member that is plain is not left out
-or_left_out-plain : (k : List ℕ) (v : Data) (d : Document) (ms : meaning.Members) → is_plain v ≡ true → or_left_out k v d ms ≡ meaning.member k d ms
+pub or_left_out-plain : (k : List ℕ) (v : Data) (d : Document) (ms : meaning.Members) → is_plain v ≡ true → or_left_out k v d ms ≡ meaning.member k d ms
 or_left_out-plain k null d ms h = cc
 or_left_out-plain k (boolean b) d ms h = refl
 or_left_out-plain k (number n) d ms h = refl

@@ -27,7 +27,8 @@ fn case_walk(alloc: Global, case: &ThinCase) -> Result<Vec<u16>, NoMemory>
     ensures { IfOk result (λ v. v.items ≡ conditions case.now) }
 {
     let mut walk = node_walk(alloc, case.nodes.list())?;
-    'relations: for relation in case.relations.list() {
+    let relations = case.relations.list();
+    'relations: for relation in relations {
         walk.push(relation.when)?;
     }
     Ok(walk)
@@ -76,7 +77,8 @@ impl Conditions {
         let walk = case_walk(alloc, case)?;
         let mut met = Vec::new(alloc);
         let mut ids = zeros(alloc, NUMBERS)?;
-        'walk: for condition in &walk {
+        let walk = walk.as_slice();
+        'walk: for condition in walk {
             meet(&mut met, ids.as_mut_slice(), *condition)?;
         }
         Ok(Conditions { met, ids })
