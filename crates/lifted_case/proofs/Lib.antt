@@ -3,3 +3,4 @@ pub mod CaseShape
 pub mod Writing
 pub mod ConditionIds
 pub mod OneGoal
+pub mod Whole

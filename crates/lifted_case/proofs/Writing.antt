@@ -1,6 +1,6 @@
 -- Documents that are written as values, put together from their parts.
-use Rattle.std.proofs.Common.{◌≡◌, ◌<◌, ◌+◌, ◌*◌, ℕ, List, [], ◌∷◌, ◌++◌, map, length, take, get_or, Bool, true, false, ◌&&◌, refl, sym, ap, ap₂, ◌∙◌, subst, append-nil, append_assoc, arith}
-use Rattle.std.proofs.lemmas.List.{take_more, length-take-le}
+use Rattle.std.proofs.Common.{◌≡◌, ◌<◌, ◌≤◌, ◌+◌, ◌*◌, ℕ, List, [], ◌∷◌, ◌++◌, map, length, take, drop, get_or, Bool, true, false, ◌&&◌, refl, sym, ap, ap₂, ◌∙◌, subst, append-nil, append_assoc, arith}
+use Rattle.std.proofs.lemmas.List.{take_more, length-take-le, drop_all}
 use Rattle.serde_json.specs.Data.{Data, null, boolean, number, string, array, object}
 use Rattle.meaning.specs.CaseBytes.{items_of, members_of, part_data, row_data}
 use Rattle.meaning.specs.CaseFiles.{CasePart, words, count}
@@ -13,6 +13,8 @@ use Rattle.doc_tree.specs.declared.doc.Doc.TheVariants as doc
 use Rattle.doc_tree.specs.View.{document, documents, documents_of, members}
 use Rattle.doc_tree.specs.View as view
 use Rattle.doc_tree.proofs.Levels.{document-List, document-Table}
+use Rattle.lifted_case.specs.declared.thin.ThinPart.{ThinPart}
+use Rattle.lifted_case.specs.View.{part_of}
 use Rattle.lifted_case.specs.Written.{is_plain, items_are_plain, members_are_plain, IsWritten, AreWritten, MembersWritten, part_documents, with_part}
 use Rattle.lifted_case.proofs.ConditionIds.{feature_rows-more}
 use Rattle.lifted_case.proofs.Plain.{both_true, or_left_out-plain}
@@ -46,6 +48,9 @@ plain-more (x ∷ vs) v h p =
 
 pub AreWritten-none : AreWritten [] []
 AreWritten-none = record { read = refl; plain = refl }
+
+pub AreWritten-empty : (docs : List Doc) → docs ≡ [] → AreWritten (documents docs) []
+AreWritten-empty docs e = subst (λ xs. AreWritten (documents xs) []) (sym e) AreWritten-none
 
 -- one more item
 pub AreWritten-more : (docs more : List Doc) (vs : List Data) (d : Doc) (v : Data) → more ≡ docs ++ d ∷ [] → AreWritten (documents docs) vs
@@ -96,7 +101,7 @@ pub rows-next : (met : List ℕ) (i id : ℕ) (r0 r1 r2 : List Doc) (a b : Doc) 
 rows-next met i id r0 r1 r2 a b within at first second all p q =
     let before = root_row ∷ feature_rows 3 (take i met) in
     let f = get_or met i 0 in
-    let long : length (take i met) ≡ i = length-take-le met i (omega arith) in
+    let long : length (take i met) ≡ i = length-take-le i met (omega arith) in
     let here : id ≡ 3 + 2 * length (take i met) = omega arith in
     let grown : feature_rows 3 (take (i + 1) met) ≡ feature_rows 3 (take i met) ++ feature_row f ∷ row_above id ∷ [] =
         ap (feature_rows 3) (take_more met i 0 within) ∙ feature_rows-more 3 (take i met) f
@@ -204,3 +209,13 @@ count-added before ended counted old new d rest end step is none =
     ∙ append_assoc (documents before ++ part_documents (in_front old [])) (of_json (part_data count) ∷ []) (part_documents rest)
     ∙ append_assoc (documents before) (part_documents (in_front old [])) (of_json (part_data count) ∷ part_documents rest)
     ∙ ap (λ ds. documents before ++ ds) (sym (part_documents-joined (in_front old []) (count ∷ rest)) ∙ ap part_documents (sym (in_front-count old rest)))
+
+-- the words at the end
+pub parts-end : (docs ended : List Doc) (pieces : List ThinPart) (i : ℕ) (old last : List ℕ) → length pieces ≤ i → last ≡ old
+    → documents ended ≡ documents docs ++ part_documents (in_front last [])
+    → documents docs ++ part_documents (in_front old (joined_parts (map part_of (drop i pieces)))) ≡ part_documents (joined_parts (map part_of pieces))
+    → documents ended ≡ part_documents (joined_parts (map part_of pieces))
+parts-end docs ended pieces i old last past same end all =
+    end ∙ ap (λ s. documents docs ++ part_documents (in_front s [])) same
+    ∙ sym (ap (λ xs. documents docs ++ part_documents (in_front old (joined_parts (map part_of xs)))) (drop_all i pieces past))
+    ∙ all
