@@ -2,3 +2,4 @@ pub mod CommandLines
 pub mod StatusLines
 pub mod NewNames
 pub mod OneItem
+pub mod BuildAnswers

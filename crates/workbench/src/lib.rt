@@ -1,6 +1,7 @@
 //! The workbench: the one call that reads the words, the files and answers.
 #![tactic(auto)]
 
+mod building;
 mod item_names;
 mod names;
 mod status;
