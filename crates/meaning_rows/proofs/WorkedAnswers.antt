@@ -1,5 +1,5 @@
 -- Answers of whole tasks to the bytes of their files, computed by the check.
-use Rattle.std.specs.Prelude.{ℕ, List, [], ◌∷◌, refl, codes}
+use Rattle.std.specs.Prelude.{[], ◌∷◌, refl, codes}
 use Rattle.std.proofs.Common.{lit<}
 use Rattle.meaning.specs.BundlePlaces.{Document', Bundle, Nodes}
 use Rattle.meaning.specs.Replay.{NotInitial, NotJoined, NotPresent, run_of, replay_answer}
@@ -9,81 +9,65 @@ use Rattle.meaning.specs.Evidence.{shown, text_of_evidence}
 use Rattle.meaning.specs.Answers.{Stage, Prints, refusal, IsAnswer, bundle_in}
 use Rattle.meaning.specs.Stages.{complete, plain_words, deriving_thin, no_case_faults}
 use Rattle.meaning.specs.ThinForm.{is_thin}
-use Rattle.meaning_rows.proofs.WorkedBundles.{rules_on_literals}
+use Rattle.meaning_rows.proofs.Samples.{one_enumeration_bundle, system_bundle, one_enumeration_case, system_case, rules_on_literals}
 
 stage : Stage
 stage = complete plain_words
 
-bundle : List ℕ
-bundle =
-    codes "{\"bundle\":1,\"title\":\"Row\",\"line\":{\"features\":[{\"name\":\"R\"},{\"name\":\"A\",\"parent\":\"R\"},{\"name\":\"B\",\"parent\":\"R\"}]},\"model\":{\"types\":[{\"name\":\"N\"}],\"kinds\":[{\"name\":\"k\",\"from\":\"N\",\"to\":\"N\"}],\"elements\":[{\"name\":\"x\",\"type\":\"N\",\"when\":\"A\"},{\"name\":\"y\",\"type\":\"N\",\"when\":\"B\"}]},\"templates\":[{\"name\":\"Top\",\"nodes\":[{\"id\":\"g\",\"kind\":\"goal\",\"text\":\"All\"},{\"id\":\"s\",\"kind\":\"strategy\",\"under\":\"g\",\"text\":\"Over {#}\",\"each\":\"n: N\"},{\"id\":\"c\",\"kind\":\"goal\",\"under\":\"s\",\"text\":\"Handle {n.name}\"}]}]}"
-
-case : List ℕ
-case =
-    codes "{\"case\":1,\"features\":[\"R\",\"A\",\"B\"],\"nodes\":[{\"key\":\"0\",\"kind\":\"goal\",\"text\":[\"All\"],\"when\":2},{\"branches\":[4,6],\"key\":\"0/1\",\"kind\":\"strategy\",\"text\":[\"Over \",0],\"when\":2},{\"key\":\"0/1/0:2\",\"kind\":\"goal\",\"text\":[\"Handle x\"],\"when\":4},{\"key\":\"0/1/1:2\",\"kind\":\"goal\",\"text\":[\"Handle y\"],\"when\":6}],\"relations\":[{\"from\":0,\"kind\":\"supported\",\"to\":1,\"when\":2},{\"from\":1,\"kind\":\"supported\",\"to\":2,\"when\":4},{\"from\":1,\"kind\":\"supported\",\"to\":3,\"when\":6}],\"systems\":[],\"table\":[[0,0,1],[1,0,1],[0,0,3],[2,0,1],[0,0,5]],\"title\":\"Row\",\"valid\":2}\n"
-
-system_bundle : List ℕ
-system_bundle =
-    codes "{\"bundle\":1,\"title\":\"Row\",\"line\":{\"features\":[{\"name\":\"R\"},{\"name\":\"A\",\"parent\":\"R\"},{\"name\":\"B\",\"parent\":\"R\"}]},\"model\":{\"types\":[{\"name\":\"N\",\"system\":true}],\"labels\":[\"bad\"],\"elements\":[{\"name\":\"c\",\"type\":\"N\"}],\"systems\":[{\"element\":\"c\",\"states\":[{\"name\":\"s0\",\"initial\":true},{\"name\":\"s1\"},{\"name\":\"s2\"},{\"name\":\"bad\",\"labels\":[\"bad\"]}],\"transitions\":[{\"from\":\"s0\",\"to\":\"s1\",\"action\":\"go\"},{\"from\":\"s1\",\"to\":\"s2\",\"action\":\"go\"},{\"from\":\"s1\",\"to\":\"bad\",\"action\":\"slip\",\"when\":\"!A\"}]}]},\"templates\":[{\"name\":\"Top\",\"nodes\":[{\"id\":\"g\",\"kind\":\"goal\",\"text\":\"All\"},{\"id\":\"s\",\"kind\":\"strategy\",\"under\":\"g\",\"text\":\"Over {#}\",\"each\":\"n: N\"},{\"id\":\"c\",\"kind\":\"goal\",\"under\":\"s\",\"text\":\"{n.name} is safe\"},{\"id\":\"e\",\"kind\":\"solution\",\"under\":\"c\",\"text\":\"Check\",\"check\":{\"never\":\"bad\",\"of\":\"n\"}}]}]}"
-
-system_case : List ℕ
-system_case =
-    codes "{\"case\":1,\"features\":[\"R\",\"A\",\"B\"],\"nodes\":[{\"key\":\"0\",\"kind\":\"goal\",\"text\":[\"All\"],\"when\":2},{\"branches\":[2],\"key\":\"0/1\",\"kind\":\"strategy\",\"text\":[\"Over \",0],\"when\":2},{\"key\":\"0/1/0:2\",\"kind\":\"goal\",\"text\":[\"c is safe\"],\"when\":2},{\"finding\":{\"check\":\"never\",\"expr\":\"bad\",\"refuted\":4,\"system\":0,\"targets\":[[3,4]]},\"key\":\"0/1/0:2/3\",\"kind\":\"solution\",\"text\":[\"Check\"],\"when\":2}],\"relations\":[{\"from\":0,\"kind\":\"supported\",\"to\":1,\"when\":2},{\"from\":1,\"kind\":\"supported\",\"to\":2,\"when\":2},{\"from\":2,\"kind\":\"supported\",\"to\":3,\"when\":2}],\"systems\":[{\"element\":\"c\",\"parents\":[2,2,4],\"reached\":[2,2,2,4],\"states\":[\"s0\",\"s1\",\"s2\",\"bad\"],\"transitions\":[[0,1,\"go\"],[1,2,\"go\"],[1,3,\"slip\"]]}],\"table\":[[0,0,1],[1,1,0],[0,0,3]],\"title\":\"Row\",\"valid\":2}\n"
-
-derives_the_text : IsAnswer stage (Derive (codes "c.json") (codes "k.json")) (case ∷ codes "{\"features\":[\"R\",\"B\"]}" ∷ []) (Prints (codes "case Row\nwith R B\nG1 goal open\n  All\n  supported by S1\nS1 strategy open\n  Over 1\n  supported by G2\nG2 goal open\n  Handle y\n"))
-unfolding rules_on_literals IsAnswer bundle_in stage case
+derives_the_text : IsAnswer stage (Derive (codes "c.json") (codes "k.json")) (one_enumeration_case ∷ codes "{\"features\":[\"R\",\"B\"]}" ∷ []) (Prints (codes "case Row\nwith R B\nG1 goal open\n  All\n  supported by S1\nS1 strategy open\n  Over 1\n  supported by G2\nG2 goal open\n  Handle y\n"))
+unfolding rules_on_literals IsAnswer bundle_in stage one_enumeration_case
 derives_the_text = refl
 
-derive_unknown : IsAnswer stage (Derive (codes "c.json") (codes "k.json")) (case ∷ codes "{\"features\":[\"R\",\"Q\"]}" ∷ []) (refusal (BadConfig 3 1))
-unfolding rules_on_literals IsAnswer bundle_in stage case
+derive_unknown : IsAnswer stage (Derive (codes "c.json") (codes "k.json")) (one_enumeration_case ∷ codes "{\"features\":[\"R\",\"Q\"]}" ∷ []) (refusal (BadConfig 3 1))
+unfolding rules_on_literals IsAnswer bundle_in stage one_enumeration_case
 derive_unknown = refl
 
-derive_repeated : IsAnswer stage (Derive (codes "c.json") (codes "k.json")) (case ∷ codes "{\"features\":[\"R\",\"R\"]}" ∷ []) (refusal (BadConfig 4 1))
-unfolding rules_on_literals IsAnswer bundle_in stage case
+derive_repeated : IsAnswer stage (Derive (codes "c.json") (codes "k.json")) (one_enumeration_case ∷ codes "{\"features\":[\"R\",\"R\"]}" ∷ []) (refusal (BadConfig 4 1))
+unfolding rules_on_literals IsAnswer bundle_in stage one_enumeration_case
 derive_repeated = refl
 
-derive_no_list : IsAnswer stage (Derive (codes "c.json") (codes "k.json")) (case ∷ codes "{}" ∷ []) (refusal (BadConfig 2 0))
-unfolding rules_on_literals IsAnswer bundle_in stage case
+derive_no_list : IsAnswer stage (Derive (codes "c.json") (codes "k.json")) (one_enumeration_case ∷ codes "{}" ∷ []) (refusal (BadConfig 2 0))
+unfolding rules_on_literals IsAnswer bundle_in stage one_enumeration_case
 derive_no_list = refl
 
-derive_no_table : IsAnswer stage (Derive (codes "c.json") (codes "k.json")) (case ∷ codes "{" ∷ []) (refusal (BadConfig 1 0))
-unfolding rules_on_literals IsAnswer bundle_in stage case
+derive_no_table : IsAnswer stage (Derive (codes "c.json") (codes "k.json")) (one_enumeration_case ∷ codes "{" ∷ []) (refusal (BadConfig 1 0))
+unfolding rules_on_literals IsAnswer bundle_in stage one_enumeration_case
 derive_no_table = refl
 
-derive_invalid : IsAnswer stage (Derive (codes "c.json") (codes "k.json")) (case ∷ codes "{\"features\":[\"A\"]}" ∷ []) (refusal NotValid)
-unfolding rules_on_literals IsAnswer bundle_in stage case
+derive_invalid : IsAnswer stage (Derive (codes "c.json") (codes "k.json")) (one_enumeration_case ∷ codes "{\"features\":[\"A\"]}" ∷ []) (refusal NotValid)
+unfolding rules_on_literals IsAnswer bundle_in stage one_enumeration_case
 derive_invalid = refl
 
-derive_unread_toml : IsAnswer (deriving_thin no_case_faults) (Derive (codes "c.json") (codes "k.toml")) (case ∷ codes "{" ∷ []) (refusal Unsupported)
-unfolding rules_on_literals IsAnswer bundle_in stage is_thin case
+derive_unread_toml : IsAnswer (deriving_thin no_case_faults) (Derive (codes "c.json") (codes "k.toml")) (one_enumeration_case ∷ codes "{" ∷ []) (refusal Unsupported)
+unfolding rules_on_literals IsAnswer bundle_in stage is_thin one_enumeration_case
 derive_unread_toml = refl
 
-products_the_text : IsAnswer stage (Product (codes "b.json") (codes "k.json")) (bundle ∷ codes "{\"features\":[\"R\",\"B\"]}" ∷ []) (Prints (codes "case Row\nwith R B\nG1 goal open\n  All\n  supported by S1\nS1 strategy open\n  Over 1\n  supported by G2\nG2 goal open\n  Handle y\n"))
-unfolding rules_on_literals IsAnswer bundle_in stage bundle
+products_the_text : IsAnswer stage (Product (codes "b.json") (codes "k.json")) (one_enumeration_bundle ∷ codes "{\"features\":[\"R\",\"B\"]}" ∷ []) (Prints (codes "case Row\nwith R B\nG1 goal open\n  All\n  supported by S1\nS1 strategy open\n  Over 1\n  supported by G2\nG2 goal open\n  Handle y\n"))
+unfolding rules_on_literals IsAnswer bundle_in stage one_enumeration_bundle
 products_the_text = refl
 
-product_unknown : IsAnswer stage (Product (codes "b.json") (codes "k.json")) (bundle ∷ codes "{\"features\":[\"R\",\"Q\"]}" ∷ []) (refusal (BadConfig 3 1))
-unfolding rules_on_literals IsAnswer bundle_in stage bundle
+product_unknown : IsAnswer stage (Product (codes "b.json") (codes "k.json")) (one_enumeration_bundle ∷ codes "{\"features\":[\"R\",\"Q\"]}" ∷ []) (refusal (BadConfig 3 1))
+unfolding rules_on_literals IsAnswer bundle_in stage one_enumeration_bundle
 product_unknown = refl
 
-product_repeated : IsAnswer stage (Product (codes "b.json") (codes "k.json")) (bundle ∷ codes "{\"features\":[\"R\",\"R\"]}" ∷ []) (refusal (BadConfig 4 1))
-unfolding rules_on_literals IsAnswer bundle_in stage bundle
+product_repeated : IsAnswer stage (Product (codes "b.json") (codes "k.json")) (one_enumeration_bundle ∷ codes "{\"features\":[\"R\",\"R\"]}" ∷ []) (refusal (BadConfig 4 1))
+unfolding rules_on_literals IsAnswer bundle_in stage one_enumeration_bundle
 product_repeated = refl
 
-product_no_list : IsAnswer stage (Product (codes "b.json") (codes "k.json")) (bundle ∷ codes "{}" ∷ []) (refusal (BadConfig 2 0))
-unfolding rules_on_literals IsAnswer bundle_in stage bundle
+product_no_list : IsAnswer stage (Product (codes "b.json") (codes "k.json")) (one_enumeration_bundle ∷ codes "{}" ∷ []) (refusal (BadConfig 2 0))
+unfolding rules_on_literals IsAnswer bundle_in stage one_enumeration_bundle
 product_no_list = refl
 
-product_no_table : IsAnswer stage (Product (codes "b.json") (codes "k.json")) (bundle ∷ codes "{" ∷ []) (refusal (BadConfig 1 0))
-unfolding rules_on_literals IsAnswer bundle_in stage bundle
+product_no_table : IsAnswer stage (Product (codes "b.json") (codes "k.json")) (one_enumeration_bundle ∷ codes "{" ∷ []) (refusal (BadConfig 1 0))
+unfolding rules_on_literals IsAnswer bundle_in stage one_enumeration_bundle
 product_no_table = refl
 
-product_invalid : IsAnswer stage (Product (codes "b.json") (codes "k.json")) (bundle ∷ codes "{\"features\":[\"A\"]}" ∷ []) (refusal NotValid)
-unfolding rules_on_literals IsAnswer bundle_in stage bundle
+product_invalid : IsAnswer stage (Product (codes "b.json") (codes "k.json")) (one_enumeration_bundle ∷ codes "{\"features\":[\"A\"]}" ∷ []) (refusal NotValid)
+unfolding rules_on_literals IsAnswer bundle_in stage one_enumeration_bundle
 product_invalid = refl
 
-product_unread_toml : IsAnswer (deriving_thin no_case_faults) (Product (codes "b.json") (codes "k.toml")) (bundle ∷ codes "{" ∷ []) (refusal Unsupported)
-unfolding rules_on_literals IsAnswer bundle_in stage is_thin bundle
+product_unread_toml : IsAnswer (deriving_thin no_case_faults) (Product (codes "b.json") (codes "k.toml")) (one_enumeration_bundle ∷ codes "{" ∷ []) (refusal Unsupported)
+unfolding rules_on_literals IsAnswer bundle_in stage is_thin one_enumeration_bundle
 product_unread_toml = refl
 
 product_of_broken_bundle : IsAnswer stage (Product (codes "b.json") (codes "k.json")) (codes "{\"bundle\":2,\"title\":\"T\",\"line\":{\"features\":[{\"name\":\"R\"}]},\"templates\":[{\"name\":\"Top\",\"nodes\":[{\"id\":\"g\",\"kind\":\"goal\",\"text\":\"Safe\"}]}]}" ∷ codes "{" ∷ []) (refusal (BadBundle (record { rule = 7; part = Bundle; item = 0; sub = 0; at = 0 })))
