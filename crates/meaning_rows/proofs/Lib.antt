@@ -9,10 +9,12 @@ pub mod BrokenQueries
 pub mod BrokenTemplates
 pub mod BuiltStages
 pub mod CommandWords
+pub mod InfusionPump
 pub mod Samples
 pub mod StatusLines
 pub mod ThinForms
 pub mod TramDoors
+pub mod VehicleBrakes
 pub mod WholeBundles
 pub mod WorkedAnswers
 pub mod WorkedAudits
