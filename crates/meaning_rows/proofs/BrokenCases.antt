@@ -48,7 +48,10 @@ version_past_32_bits : fault_in (edited smallest_case (codes "'case':1") (codes 
 unfolding meaning_on_literals
 version_past_32_bits = refl
 
-last_form_before_the_version : fault_in (edited (edited smallest_case (codes "'case':1") (codes "'case':9")) (codes "'relations':[]") (codes "'relations':[5]")) ≡ case_fault 2 Relations 0
+last_form_before_the_version : fault_in (edited (edited smallest_case (codes "'case':1")
+    (codes "'case':9"))
+    (codes "'relations':[]")
+    (codes "'relations':[5]")) ≡ case_fault 2 Relations 0
 unfolding meaning_on_literals
 last_form_before_the_version = refl
 
@@ -96,7 +99,8 @@ node_of_unknown_kind : fault_in (edited smallest_case (codes "'kind':'goal'") (c
 unfolding meaning_on_literals
 node_of_unknown_kind = refl
 
-relation_to_no_node : fault_in (edited smallest_case (codes "'relations':[]") (codes "'relations':[{'from':0,'to':7,'kind':'supported','when':2}]")) ≡ case_fault 8 Relations 0
+relation_to_no_node : fault_in (edited smallest_case (codes "'relations':[]")
+    (codes "'relations':[{'from':0,'to':7,'kind':'supported','when':2}]")) ≡ case_fault 8 Relations 0
 unfolding meaning_on_literals
 relation_to_no_node = refl
 
@@ -136,6 +140,7 @@ text_may_be_empty = refl
 abbrev numbered_feature : ℕ → List ℕ
 numbered_feature n = json (codes ",'F") ++ decimal n ++ json (codes "'")
 
-feature_257 : fault_in (edited smallest_case (codes "['R']") (codes "['R'" ++ flat numbered_feature (numbers_from 0 256) ++ codes "]")) ≡ case_fault 11 Features 256
+feature_257 : fault_in (edited smallest_case (codes "['R']")
+    (codes "['R'" ++ flat numbered_feature (numbers_from 0 256) ++ codes "]")) ≡ case_fault 11 Features 256
 unfolding meaning_on_literals
 feature_257 = refl

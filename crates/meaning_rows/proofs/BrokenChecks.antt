@@ -149,7 +149,8 @@ use_with_a_text : fault_of (edited library_bundle (codes "'n']") (codes "'n'],'t
 unfolding rules_on_literals
 use_with_a_text = refl
 
-use_where_its_argument_is_not_in_scope : fault_of (edited library_bundle (codes "'use','under':'s'") (codes "'use','under':'g'")) ≡ Some (fault 29 Nodes 1 3 0)
+use_where_its_argument_is_not_in_scope : fault_of (edited library_bundle (codes "'use','under':'s'")
+    (codes "'use','under':'g'")) ≡ Some (fault 29 Nodes 1 3 0)
 unfolding rules_on_literals
 use_where_its_argument_is_not_in_scope = refl
 
@@ -169,15 +170,22 @@ use_with_a_check : fault_of (edited library_bundle (codes "'n']") (codes "'n'],'
 unfolding rules_on_literals
 use_with_a_check = refl
 
-node_under_a_use : fault_of (edited library_bundle (codes "'n']}") (codes "'n']},{'id':'v','kind':'goal','under':'u','text':'x'}")) ≡ Some (fault 24 Nodes 1 4 0)
+node_under_a_use : fault_of (edited library_bundle (codes "'n']}")
+    (codes "'n']},{'id':'v','kind':'goal','under':'u','text':'x'}")) ≡ Some (fault 24 Nodes 1 4 0)
 unfolding rules_on_literals
 node_under_a_use = refl
 
-argument_of_a_type_above : fault_of (edited (edited library_bundle (codes "'types':[{'name'") (codes "'types':[{'name':'N'},{'name':'P','parent'")) (codes "'p','type':'N'") (codes "'p','type':'P'")) ≡ Some (fault 29 Nodes 1 3 0)
+argument_of_a_type_above : fault_of (edited (edited library_bundle (codes "'types':[{'name'")
+    (codes "'types':[{'name':'N'},{'name':'P','parent'"))
+    (codes "'p','type':'N'")
+    (codes "'p','type':'P'")) ≡ Some (fault 29 Nodes 1 3 0)
 unfolding rules_on_literals
 argument_of_a_type_above = refl
 
-argument_of_a_type_below : fault_of (edited (edited library_bundle (codes "'types':[{'name'") (codes "'types':[{'name':'N'},{'name':'P','parent'")) (codes "'each':'n: N'") (codes "'each':'n: P'")) ≡ None
+argument_of_a_type_below : fault_of (edited (edited library_bundle (codes "'types':[{'name'")
+    (codes "'types':[{'name':'N'},{'name':'P','parent'"))
+    (codes "'each':'n: N'")
+    (codes "'each':'n: P'")) ≡ None
 unfolding rules_on_literals
 argument_of_a_type_below = refl
 

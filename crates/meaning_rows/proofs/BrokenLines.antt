@@ -114,11 +114,15 @@ parent_is_later : fault_of (edited one_enumeration_bundle (codes "'parent':'R'")
 unfolding rules_on_literals
 parent_is_later = refl
 
-feature_of_unknown_kind : fault_of (edited one_enumeration_bundle (codes "'parent':'R'") (codes "'parent':'R','kind':'maybe'")) ≡ Some (fault 9 Features 1 0 0)
+feature_of_unknown_kind : fault_of (edited one_enumeration_bundle (codes "'parent':'R'")
+    (codes "'parent':'R','kind':'maybe'")) ≡ Some (fault 9 Features 1 0 0)
 unfolding rules_on_literals
 feature_of_unknown_kind = refl
 
-title_before_a_feature : fault_of (edited (edited one_enumeration_bundle (codes "'title':'Row'") (codes "'title':'Row\\n'")) (codes "'parent':'R'") (codes "'parent':'R','kind':'maybe'")) ≡ Some (fault 4 Bundle 0 0 0)
+title_before_a_feature : fault_of (edited (edited one_enumeration_bundle (codes "'title':'Row'")
+    (codes "'title':'Row\\n'"))
+    (codes "'parent':'R'")
+    (codes "'parent':'R','kind':'maybe'")) ≡ Some (fault 4 Bundle 0 0 0)
 unfolding rules_on_literals
 title_before_a_feature = refl
 

@@ -7,7 +7,8 @@ use Rattle.meaning_rows.proofs.Samples.{one_enumeration_bundle, nested_bundle, s
 
 -- ---- types, link kinds and labels
 
-type_under_itself : fault_of (edited one_enumeration_bundle (codes "'types':[{'name'") (codes "'types':[{'name':'N','parent'")) ≡ Some (fault 13 Types 0 0 0)
+type_under_itself : fault_of (edited one_enumeration_bundle (codes "'types':[{'name'")
+    (codes "'types':[{'name':'N','parent'")) ≡ Some (fault 13 Types 0 0 0)
 unfolding rules_on_literals
 type_under_itself = refl
 
@@ -15,7 +16,8 @@ attribute_twice : fault_of (edited one_enumeration_bundle (codes ":'N'") (codes 
 unfolding rules_on_literals
 attribute_twice = refl
 
-attribute_inherited_twice : fault_of (edited one_enumeration_bundle (codes ":'N'") (codes ":'N'},{'name':'P','attributes':['a']},{'name':'Q','parent':'P','attributes':['b','a']")) ≡ Some (fault 5 Types 2 0 0)
+attribute_inherited_twice : fault_of (edited one_enumeration_bundle (codes ":'N'")
+    (codes ":'N'},{'name':'P','attributes':['a']},{'name':'Q','parent':'P','attributes':['b','a']")) ≡ Some (fault 5 Types 2 0 0)
 unfolding rules_on_literals
 attribute_inherited_twice = refl
 
@@ -58,7 +60,8 @@ element_of_unknown_type : fault_of (edited one_enumeration_bundle (codes "'y','t
 unfolding rules_on_literals
 element_of_unknown_type = refl
 
-attribute_that_the_type_lacks : fault_of (edited one_enumeration_bundle (codes "'when':'A'") (codes "'when':'A','attributes':{'q':'v'}")) ≡ Some (fault 16 Elements 0 0 0)
+attribute_that_the_type_lacks : fault_of (edited one_enumeration_bundle (codes "'when':'A'")
+    (codes "'when':'A','attributes':{'q':'v'}")) ≡ Some (fault 16 Elements 0 0 0)
 unfolding rules_on_literals
 attribute_that_the_type_lacks = refl
 
@@ -66,11 +69,23 @@ attribute_left_out : fault_of (edited one_enumeration_bundle (codes ":'N'") (cod
 unfolding rules_on_literals
 attribute_left_out = refl
 
-attribute_is_a_number : fault_of (edited (edited one_enumeration_bundle (codes ":'N'") (codes ":'N','attributes':['a']")) (codes "'when':'A'") (codes "'when':'A','attributes':{'a':5}")) ≡ Some (fault 2 Elements 0 0 0)
+attribute_is_a_number : fault_of (edited (edited one_enumeration_bundle (codes ":'N'")
+    (codes ":'N','attributes':['a']"))
+    (codes "'when':'A'")
+    (codes "'when':'A','attributes':{'a':5}")) ≡ Some (fault 2 Elements 0 0 0)
 unfolding rules_on_literals
 attribute_is_a_number = refl
 
-attribute_in_a_query_and_a_text : fault_of (edited (edited (edited (edited (edited one_enumeration_bundle (codes ":'N'") (codes ":'N','attributes':['a']")) (codes "'when':'A'") (codes "'when':'A','attributes':{'a':'v'}")) (codes "'when':'B'") (codes "'when':'B','attributes':{'a':'w'}")) (codes "'each':'n: N'") (codes "'each':'n: N with n.a != `v`'")) (codes "'text':'Handle {n.name}'") (codes "'text':'{n.a}'")) ≡ None
+attribute_in_a_query_and_a_text : fault_of (edited (edited (edited (edited (edited one_enumeration_bundle (codes ":'N'")
+    (codes ":'N','attributes':['a']"))
+    (codes "'when':'A'")
+    (codes "'when':'A','attributes':{'a':'v'}"))
+    (codes "'when':'B'")
+    (codes "'when':'B','attributes':{'a':'w'}"))
+    (codes "'each':'n: N'")
+    (codes "'each':'n: N with n.a != `v`'"))
+    (codes "'text':'Handle {n.name}'")
+    (codes "'text':'{n.a}'")) ≡ None
 unfolding rules_on_literals
 attribute_in_a_query_and_a_text = refl
 
@@ -78,7 +93,8 @@ condition_that_ends_early : fault_of (edited one_enumeration_bundle (codes "'whe
 unfolding rules_on_literals
 condition_that_ends_early = refl
 
-condition_with_an_unknown_name : fault_of (edited one_enumeration_bundle (codes "'when':'A'") (codes "'when':'A & Q'")) ≡ Some (fault 12 Elements 0 0 4)
+condition_with_an_unknown_name : fault_of (edited one_enumeration_bundle (codes "'when':'A'")
+    (codes "'when':'A & Q'")) ≡ Some (fault 12 Elements 0 0 4)
 unfolding rules_on_literals
 condition_with_an_unknown_name = refl
 
@@ -90,11 +106,17 @@ link_to_unknown_element : fault_of (edited nested_bundle (codes "'to':'y'") (cod
 unfolding rules_on_literals
 link_to_unknown_element = refl
 
-link_to_wrong_type : fault_of (edited (edited nested_bundle (codes "'N'}") (codes "'N'},{'name':'P'}")) (codes "'y','type':'N'") (codes "'y','type':'P'")) ≡ Some (fault 18 Links 0 0 0)
+link_to_wrong_type : fault_of (edited (edited nested_bundle (codes "'N'}")
+    (codes "'N'},{'name':'P'}"))
+    (codes "'y','type':'N'")
+    (codes "'y','type':'P'")) ≡ Some (fault 18 Links 0 0 0)
 unfolding rules_on_literals
 link_to_wrong_type = refl
 
-link_to_a_type_below : fault_of (edited (edited nested_bundle (codes "'N'}") (codes "'N'},{'name':'P','parent':'N'}")) (codes "'y','type':'N'") (codes "'y','type':'P'")) ≡ None
+link_to_a_type_below : fault_of (edited (edited nested_bundle (codes "'N'}")
+    (codes "'N'},{'name':'P','parent':'N'}"))
+    (codes "'y','type':'N'")
+    (codes "'y','type':'P'")) ≡ None
 unfolding rules_on_literals
 link_to_a_type_below = refl
 
@@ -125,7 +147,10 @@ system_of_plain_type : fault_of (edited system_bundle (codes "'system':true") (c
 unfolding rules_on_literals
 system_of_plain_type = refl
 
-system_type_by_its_parent : fault_of (edited (edited system_bundle (codes "'name':'N'") (codes "'name':'P'")) (codes "true") (codes "true},{'name':'N','parent':'P'")) ≡ None
+system_type_by_its_parent : fault_of (edited (edited system_bundle (codes "'name':'N'")
+    (codes "'name':'P'"))
+    (codes "true")
+    (codes "true},{'name':'N','parent':'P'")) ≡ None
 unfolding rules_on_literals
 system_type_by_its_parent = refl
 
@@ -146,7 +171,8 @@ states_left_out : fault_of (edited system_bundle (codes ",'states':[{'name':'s0'
 unfolding rules_on_literals
 states_left_out = refl
 
-states_are_a_text : fault_of (edited system_bundle (codes "'states':[{'name':'s0','initial':true},{'name':'s1'},{'name':'s2'},{'name':'bad','labels':['bad']}]") (codes "'states':'x'")) ≡ Some (fault 2 States 0 0 0)
+states_are_a_text : fault_of (edited system_bundle (codes "'states':[{'name':'s0','initial':true},{'name':'s1'},{'name':'s2'},{'name':'bad','labels':['bad']}]")
+    (codes "'states':'x'")) ≡ Some (fault 2 States 0 0 0)
 unfolding rules_on_literals
 states_are_a_text = refl
 
@@ -183,7 +209,10 @@ condition_of_a_transition : fault_of (edited system_bundle (codes "'when':'!A'")
 unfolding rules_on_literals
 condition_of_a_transition = refl
 
-condition_before_the_ends_of_a_transition : fault_of (edited (edited system_bundle (codes "'s2','action':'go'},{'from':'s1'") (codes "'s2','action':'go'},{'from':'zz'")) (codes "'when':'!A'") (codes "'when':'!Q'")) ≡ Some (fault 12 Transitions 0 2 1)
+condition_before_the_ends_of_a_transition : fault_of (edited (edited system_bundle (codes "'s2','action':'go'},{'from':'s1'")
+    (codes "'s2','action':'go'},{'from':'zz'"))
+    (codes "'when':'!A'")
+    (codes "'when':'!Q'")) ≡ Some (fault 12 Transitions 0 2 1)
 unfolding rules_on_literals
 condition_before_the_ends_of_a_transition = refl
 

@@ -21,7 +21,8 @@ template_twice : fault_of (edited library_bundle (codes "'name':'Top'") (codes "
 unfolding rules_on_literals
 template_twice = refl
 
-nodes_left_out : fault_of (edited smallest_bundle (codes ",'nodes':[{'id':'g','kind':'goal','text':'Safe'}]") (codes "")) ≡ Some (fault 24 Templates 0 0 0)
+nodes_left_out : fault_of (edited smallest_bundle (codes ",'nodes':[{'id':'g','kind':'goal','text':'Safe'}]")
+    (codes "")) ≡ Some (fault 24 Templates 0 0 0)
 unfolding rules_on_literals
 nodes_left_out = refl
 
@@ -34,15 +35,18 @@ nodes_are_a_text : fault_of (edited smallest_bundle (codes "[{'id':'g','kind':'g
 unfolding rules_on_literals
 nodes_are_a_text = refl
 
-last_template_with_parameter : fault_of (edited one_enumeration_bundle (codes "{'name':'Top'") (codes "{'name':'Top','params':[{'name':'p','type':'N'}]")) ≡ Some (fault 23 Templates 0 0 0)
+last_template_with_parameter : fault_of (edited one_enumeration_bundle (codes "{'name':'Top'")
+    (codes "{'name':'Top','params':[{'name':'p','type':'N'}]")) ≡ Some (fault 23 Templates 0 0 0)
 unfolding rules_on_literals
 last_template_with_parameter = refl
 
-last_template_with_a_broken_parameter : fault_of (edited one_enumeration_bundle (codes "{'name':'Top'") (codes "{'name':'Top','params':[5]")) ≡ Some (fault 23 Templates 0 0 0)
+last_template_with_a_broken_parameter : fault_of (edited one_enumeration_bundle (codes "{'name':'Top'")
+    (codes "{'name':'Top','params':[5]")) ≡ Some (fault 23 Templates 0 0 0)
 unfolding rules_on_literals
 last_template_with_a_broken_parameter = refl
 
-parameters_are_a_text : fault_of (edited one_enumeration_bundle (codes "{'name':'Top'") (codes "{'name':'Top','params':'x'")) ≡ Some (fault 2 Params 0 0 0)
+parameters_are_a_text : fault_of (edited one_enumeration_bundle (codes "{'name':'Top'")
+    (codes "{'name':'Top','params':'x'")) ≡ Some (fault 2 Params 0 0 0)
 unfolding rules_on_literals
 parameters_are_a_text = refl
 
@@ -91,7 +95,8 @@ under_unknown_node : fault_of (edited one_enumeration_bundle (codes "'under':'g'
 unfolding rules_on_literals
 under_unknown_node = refl
 
-strategy_under_strategy : fault_of (edited one_enumeration_bundle (codes "'c','kind':'goal'") (codes "'c','kind':'strategy'")) ≡ Some (fault 24 Nodes 0 2 0)
+strategy_under_strategy : fault_of (edited one_enumeration_bundle (codes "'c','kind':'goal'")
+    (codes "'c','kind':'strategy'")) ≡ Some (fault 24 Nodes 0 2 0)
 unfolding rules_on_literals
 strategy_under_strategy = refl
 
@@ -104,7 +109,8 @@ node_without_a_text : fault_of (edited one_enumeration_bundle (codes ",'text':'H
 unfolding rules_on_literals
 node_without_a_text = refl
 
-goal_with_each : fault_of (edited one_enumeration_bundle (codes "'Handle {n.name}'") (codes "'Handle {n.name}','each':'m: N'")) ≡ Some (fault 25 Nodes 0 2 0)
+goal_with_each : fault_of (edited one_enumeration_bundle (codes "'Handle {n.name}'")
+    (codes "'Handle {n.name}','each':'m: N'")) ≡ Some (fault 25 Nodes 0 2 0)
 unfolding rules_on_literals
 goal_with_each = refl
 
@@ -112,7 +118,8 @@ goal_with_check : fault_of (edited one_enumeration_bundle (codes "'All'") (codes
 unfolding rules_on_literals
 goal_with_check = refl
 
-goal_with_an_empty_list_of_arguments : fault_of (edited one_enumeration_bundle (codes "'Handle {n.name}'") (codes "'Handle {n.name}','args':[]")) ≡ Some (fault 25 Nodes 0 2 0)
+goal_with_an_empty_list_of_arguments : fault_of (edited one_enumeration_bundle (codes "'Handle {n.name}'")
+    (codes "'Handle {n.name}','args':[]")) ≡ Some (fault 25 Nodes 0 2 0)
 unfolding rules_on_literals
 goal_with_an_empty_list_of_arguments = refl
 
@@ -129,23 +136,30 @@ query_of_unknown_type : fault_of (edited one_enumeration_bundle (codes "'each':'
 unfolding rules_on_literals
 query_of_unknown_type = refl
 
-context_of_a_strategy_sees_no_variable_of_it : fault_of (edited one_enumeration_bundle (codes "'c','kind':'goal'") (codes "'c','kind':'context'")) ≡ Some (fault 27 Nodes 0 2 8)
+context_of_a_strategy_sees_no_variable_of_it : fault_of (edited one_enumeration_bundle (codes "'c','kind':'goal'")
+    (codes "'c','kind':'context'")) ≡ Some (fault 27 Nodes 0 2 8)
 unfolding rules_on_literals
 context_of_a_strategy_sees_no_variable_of_it = refl
 
-context_of_a_goal_sees_the_variable_above : fault_of (edited one_enumeration_bundle (codes "'Handle {n.name}'}") (codes "'Handle {n.name}'},{'id':'d','kind':'context','under':'c','text':'{n.name}'}")) ≡ None
+context_of_a_goal_sees_the_variable_above : fault_of (edited one_enumeration_bundle (codes "'Handle {n.name}'}")
+    (codes "'Handle {n.name}'},{'id':'d','kind':'context','under':'c','text':'{n.name}'}")) ≡ None
 unfolding rules_on_literals
 context_of_a_goal_sees_the_variable_above = refl
 
-expression_in_a_goal_first : fault_of (edited system_bundle (codes "'{n.name} is safe'") (codes "'{n.name} is safe','check':{'never':'bad &','of':'n'}")) ≡ Some (fault 11 Nodes 0 2 5)
+expression_in_a_goal_first : fault_of (edited system_bundle (codes "'{n.name} is safe'")
+    (codes "'{n.name} is safe','check':{'never':'bad &','of':'n'}")) ≡ Some (fault 11 Nodes 0 2 5)
 unfolding rules_on_literals
 expression_in_a_goal_first = refl
 
-expression_before_an_unknown_kind : fault_of (edited (edited system_bundle (codes "'kind':'solution'") (codes "'kind':'zz'")) (codes "'never':'bad'") (codes "'never':'q'")) ≡ Some (fault 12 Nodes 0 3 0)
+expression_before_an_unknown_kind : fault_of (edited (edited system_bundle (codes "'kind':'solution'")
+    (codes "'kind':'zz'"))
+    (codes "'never':'bad'")
+    (codes "'never':'q'")) ≡ Some (fault 12 Nodes 0 3 0)
 unfolding rules_on_literals
 expression_before_an_unknown_kind = refl
 
-hole_of_unknown_variable : fault_of (edited one_enumeration_bundle (codes "'text':'Handle {n.name}'") (codes "'text':'Handle {q.name}'")) ≡ Some (fault 27 Nodes 0 2 8)
+hole_of_unknown_variable : fault_of (edited one_enumeration_bundle (codes "'text':'Handle {n.name}'")
+    (codes "'text':'Handle {q.name}'")) ≡ Some (fault 27 Nodes 0 2 8)
 unfolding rules_on_literals
 hole_of_unknown_variable = refl
 
@@ -155,22 +169,33 @@ node_that_is_not_undeveloped : fault_of (edited one_enumeration_bundle (codes "'
 unfolding rules_on_literals
 node_that_is_not_undeveloped = refl
 
-undeveloped_goal_without_support : fault_of (edited one_enumeration_bundle (codes "'Handle {n.name}'") (codes "'Handle {n.name}','undeveloped':true")) ≡ None
+undeveloped_goal_without_support : fault_of (edited one_enumeration_bundle (codes "'Handle {n.name}'")
+    (codes "'Handle {n.name}','undeveloped':true")) ≡ None
 unfolding rules_on_literals
 undeveloped_goal_without_support = refl
 
-undeveloped_goal_with_support : fault_of (edited one_enumeration_bundle (codes "'All'") (codes "'All','undeveloped':true")) ≡ Some (fault 25 Nodes 0 0 0)
+undeveloped_goal_with_support : fault_of (edited one_enumeration_bundle (codes "'All'")
+    (codes "'All','undeveloped':true")) ≡ Some (fault 25 Nodes 0 0 0)
 unfolding rules_on_literals
 undeveloped_goal_with_support = refl
 
-undeveloped_context : fault_of (edited (edited one_enumeration_bundle (codes "'c','kind':'goal'") (codes "'c','kind':'context'")) (codes "'text':'Handle {n.name}'") (codes "'text':'x','undeveloped':true")) ≡ Some (fault 25 Nodes 0 2 0)
+undeveloped_context : fault_of (edited (edited one_enumeration_bundle (codes "'c','kind':'goal'")
+    (codes "'c','kind':'context'"))
+    (codes "'text':'Handle {n.name}'")
+    (codes "'text':'x','undeveloped':true")) ≡ Some (fault 25 Nodes 0 2 0)
 unfolding rules_on_literals
 undeveloped_context = refl
 
-broken_node_before_an_undeveloped_one : fault_of (edited (edited one_enumeration_bundle (codes "'All'") (codes "'All','undeveloped':true")) (codes "'id':'c'") (codes "'id':'with'")) ≡ Some (fault 3 Nodes 0 2 0)
+broken_node_before_an_undeveloped_one : fault_of (edited (edited one_enumeration_bundle (codes "'All'")
+    (codes "'All','undeveloped':true"))
+    (codes "'id':'c'")
+    (codes "'id':'with'")) ≡ Some (fault 3 Nodes 0 2 0)
 unfolding rules_on_literals
 broken_node_before_an_undeveloped_one = refl
 
-undeveloped_strategy_over_a_misplaced_solution : fault_of (edited (edited one_enumeration_bundle (codes "'n: N'") (codes "'n: N','undeveloped':true")) (codes "'c','kind':'goal'") (codes "'c','kind':'solution'")) ≡ Some (fault 25 Nodes 0 1 0)
+undeveloped_strategy_over_a_misplaced_solution : fault_of (edited (edited one_enumeration_bundle (codes "'n: N'")
+    (codes "'n: N','undeveloped':true"))
+    (codes "'c','kind':'goal'")
+    (codes "'c','kind':'solution'")) ≡ Some (fault 25 Nodes 0 1 0)
 unfolding rules_on_literals
 undeveloped_strategy_over_a_misplaced_solution = refl

@@ -31,11 +31,13 @@ deeper_feature_is_not_thin : thin (edited one_enumeration_bundle (codes "'B','pa
 unfolding rules_on_literals thin
 deeper_feature_is_not_thin = refl
 
-line_rule_is_not_thin : thin (edited one_enumeration_bundle (codes "'B','parent':'R'") (codes "'B','parent':'R'}],'rules':[{'holds':'A'")) ≡ Some false
+line_rule_is_not_thin : thin (edited one_enumeration_bundle (codes "'B','parent':'R'")
+    (codes "'B','parent':'R'}],'rules':[{'holds':'A'")) ≡ Some false
 unfolding rules_on_literals thin
 line_rule_is_not_thin = refl
 
-type_with_parent_is_not_thin : thin (edited one_enumeration_bundle (codes "'types':[{'name'") (codes "'types':[{'name':'N'},{'name':'P','parent'")) ≡ Some false
+type_with_parent_is_not_thin : thin (edited one_enumeration_bundle (codes "'types':[{'name'")
+    (codes "'types':[{'name':'N'},{'name':'P','parent'")) ≡ Some false
 unfolding rules_on_literals thin
 type_with_parent_is_not_thin = refl
 
@@ -47,7 +49,10 @@ type_of_systems_is_not_thin : thin (edited one_enumeration_bundle (codes ":'N'")
 unfolding rules_on_literals thin
 type_of_systems_is_not_thin = refl
 
-defaults_written_is_thin : thin (edited (edited one_enumeration_bundle (codes "'N'}") (codes "'N'},{'name':'P','system':false,'attributes':[]}")) (codes "'B'}]") (codes "'B'}],'labels':[]")) ≡ Some true
+defaults_written_is_thin : thin (edited (edited one_enumeration_bundle (codes "'N'}")
+    (codes "'N'},{'name':'P','system':false,'attributes':[]}"))
+    (codes "'B'}]")
+    (codes "'B'}],'labels':[]")) ≡ Some true
 unfolding rules_on_literals thin
 defaults_written_is_thin = refl
 
@@ -91,11 +96,17 @@ each_with_constraint_is_not_thin : thin (edited one_enumeration_bundle (codes "'
 unfolding rules_on_literals thin
 each_with_constraint_is_not_thin = refl
 
-text_without_holes_is_thin : thin (edited (edited one_enumeration_bundle (codes "'text':'Over {#}'") (codes "'text':'All'")) (codes "'text':'Handle {n.name}'") (codes "'text':'One'")) ≡ Some true
+text_without_holes_is_thin : thin (edited (edited one_enumeration_bundle (codes "'text':'Over {#}'")
+    (codes "'text':'All'"))
+    (codes "'text':'Handle {n.name}'")
+    (codes "'text':'One'")) ≡ Some true
 unfolding rules_on_literals thin
 text_without_holes_is_thin = refl
 
-two_holes_is_thin : thin (edited (edited one_enumeration_bundle (codes "'text':'Over {#}'") (codes "'text':'{#} of {#}'")) (codes "'text':'Handle {n.name}'") (codes "'text':'{n.name} {n.name}'")) ≡ Some true
+two_holes_is_thin : thin (edited (edited one_enumeration_bundle (codes "'text':'Over {#}'")
+    (codes "'text':'{#} of {#}'"))
+    (codes "'text':'Handle {n.name}'")
+    (codes "'text':'{n.name} {n.name}'")) ≡ Some true
 unfolding rules_on_literals thin
 two_holes_is_thin = refl
 
@@ -112,11 +123,17 @@ two_nodes_is_not_thin : thin (edited one_enumeration_bundle (codes ",{'id':'c','
 unfolding rules_on_literals thin
 two_nodes_is_not_thin = refl
 
-context_is_not_thin : thin (edited (edited one_enumeration_bundle (codes "'c','kind':'goal'") (codes "'c','kind':'context'")) (codes "'text':'Handle {n.name}'") (codes "'text':'x'")) ≡ Some false
+context_is_not_thin : thin (edited (edited one_enumeration_bundle (codes "'c','kind':'goal'")
+    (codes "'c','kind':'context'"))
+    (codes "'text':'Handle {n.name}'")
+    (codes "'text':'x'")) ≡ Some false
 unfolding rules_on_literals thin
 context_is_not_thin = refl
 
-goal_below_first_is_not_thin : thin (edited (edited one_enumeration_bundle (codes "'under':'s'") (codes "'under':'g'")) (codes "'text':'Handle {n.name}'") (codes "'text':'x'")) ≡ Some false
+goal_below_first_is_not_thin : thin (edited (edited one_enumeration_bundle (codes "'under':'s'")
+    (codes "'under':'g'"))
+    (codes "'text':'Handle {n.name}'")
+    (codes "'text':'x'")) ≡ Some false
 unfolding rules_on_literals thin
 goal_below_first_is_not_thin = refl
 
@@ -132,7 +149,8 @@ guard_is_not_thin : thin (edited one_enumeration_bundle (codes "'n: N'") (codes 
 unfolding rules_on_literals thin
 guard_is_not_thin = refl
 
-two_templates_is_not_thin : thin (edited smallest_bundle (codes "'templates':[{'name':") (codes "'templates':[{'name':'Lib','nodes':[{'id':'g','kind':'goal','text':'x'}]},{'name':")) ≡ Some false
+two_templates_is_not_thin : thin (edited smallest_bundle (codes "'templates':[{'name':")
+    (codes "'templates':[{'name':'Lib','nodes':[{'id':'g','kind':'goal','text':'x'}]},{'name':")) ≡ Some false
 unfolding rules_on_literals thin
 two_templates_is_not_thin = refl
 
