@@ -1,7 +1,10 @@
 -- The doors of a tram: a bundle of twelve features, with three systems, two templates and five queries, computed by the check.
-use Rattle.std.specs.Prelude.{◌≡◌, List, ℕ, ◌++◌, Some, None, refl, codes, option_map}
+use Rattle.std.specs.Prelude.{◌≡◌, List, [], ◌∷◌, ℕ, Bool, true, false, option_and_then, ◌++◌, Some, None, refl, codes, option_map}
 use Rattle.meaning.specs.Documents.{Json, document_of}
-use Rattle.meaning.specs.Derivation.{bundle_of, direct, Text}
+use Rattle.std.specs.List.{slice_get}
+use Rattle.meaning.specs.Models.{model_at, system_of}
+use Rattle.meaning.specs.Systems.{run_to}
+use Rattle.meaning.specs.Derivation.{bundle_of, case_at, direct, Text}
 use Rattle.meaning_rows.proofs.Samples.{json, meaning_on_literals, rules_on_literals, fault_of}
 
 unfoldable pub tram_bundle : List ℕ
@@ -144,3 +147,18 @@ night_text =
 tram_at_night : option_map (λ d. direct (bundle_of d) Json night_configuration) (document_of Json tram_bundle) ≡ Some (Text night_text)
 unfolding meaning_on_literals tram_bundle night_configuration night_text
 tram_at_night = refl
+
+night : List Bool
+night = true ∷ true ∷ true ∷ false ∷ true ∷ true ∷ false ∷ false ∷ false ∷ true ∷ false ∷ true ∷ []
+
+-- the key of the solution that is refuted: below two enumerations and the use of a template
+key_of_the_refuted_check : option_and_then (λ d. option_map (λ n. n.key) (slice_get (case_at (bundle_of d) night).nodes 12)) (document_of Json tram_bundle)
+    ≡ Some (codes "0/2/0:3/4/5:5/2/8:3/4")
+unfolding meaning_on_literals tram_bundle night
+key_of_the_refuted_check = refl
+
+-- the run of that check: start, then open
+run_of_the_refuted_check : option_and_then (λ d. option_map (λ s. run_to s 3) (system_of (model_at (bundle_of d).model night) 8)) (document_of Json tram_bundle)
+    ≡ Some (0, 2 ∷ 4 ∷ [])
+unfolding meaning_on_literals tram_bundle night
+run_of_the_refuted_check = refl

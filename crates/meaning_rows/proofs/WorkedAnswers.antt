@@ -9,7 +9,8 @@ use Rattle.meaning.specs.Evidence.{shown, text_of_evidence}
 use Rattle.meaning.specs.Answers.{Stage, Answer, Prints, refusal, IsAnswer, bundle_in}
 use Rattle.meaning.specs.Stages.{complete, plain_words, deriving_thin, no_case_faults}
 use Rattle.meaning.specs.ThinForm.{is_thin}
-use Rattle.meaning_rows.proofs.Samples.{json, edited, smallest_bundle, smallest_case, one_enumeration_bundle, one_enumeration_case, system_bundle, system_case, rules_on_literals, fault}
+use Rattle.toml.proofs.OnLiterals.{toml_on_literals}
+use Rattle.meaning_rows.proofs.Samples.{json, edited, smallest_bundle, smallest_toml, smallest_case, one_enumeration_bundle, one_enumeration_case, system_bundle, system_case, rules_on_literals, fault}
 
 abbrev whole : Stage
 whole = complete plain_words
@@ -102,6 +103,11 @@ gives_nothing_of_a_broken_bundle : Gives (edited smallest_bundle (codes "'bundle
 unfolding rules_on_literals IsAnswer bundle_in
 gives_nothing_of_a_broken_bundle = (fault 7 Bundle 0 0 0, (0, lit< tt, refl), refl)
 
+gives_the_text_in_toml : IsAnswer whole (Product (codes "b.toml") (codes "k.toml")) (smallest_toml ∷ codes "features = [\"R\"]\n" ∷ [])
+    (Prints (codes "case T\nwith R\nG1 goal open\n  Safe\n"))
+unfolding rules_on_literals toml_on_literals IsAnswer bundle_in
+gives_the_text_in_toml = refl
+
 gives_nothing_of_an_unread_configuration : IsAnswer first (Product (codes "b.json") (codes "k.toml")) (one_enumeration_bundle ∷ codes "{" ∷ []) (refusal Unsupported)
 unfolding rules_on_literals IsAnswer bundle_in is_thin
 gives_nothing_of_an_unread_configuration = refl
@@ -166,6 +172,13 @@ without_run = refusal (BadCase (record { fault = 12; part = Nodes; item = 3 }))
 shows_no_run_without_a_target : Shows (edited system_case (codes "[[3,4]]") (codes "[]")) (codes "{'features':['R']}") without_run
 unfolding rules_on_literals IsAnswer shown text_of_evidence
 shows_no_run_without_a_target = refl
+
+states_text : List ℕ
+states_text = codes "evidence Row\nwith R A\nSn1 solution supported\n  key 0/1/0:2/3\n  check never bad of c\n  states s0 s1 s2\n"
+
+shows_states_without_a_target : Shows (edited system_case (codes "[[3,4]]") (codes "[]")) (codes "{'features':['R','A']}") (Prints states_text)
+unfolding rules_on_literals IsAnswer shown text_of_evidence states_text
+shows_states_without_a_target = refl
 
 -- a transition back from the third state to the second, and parents that form a circle
 shows_no_run_round_a_circle : Shows

@@ -303,3 +303,23 @@ no_way_back_case = edited system_case (codes "'parents':[2") (codes "'parents':[
 no_way_back : audited system_bundle no_way_back_case ≡ Some (Some (record { clause = RefutedReplays; item = 3; sub = 0 }))
 unfolding meaning_on_literals audited broken_at system_bundle no_way_back_case
 no_way_back = refl
+
+-- a transition back from the third state to the second, over which no run goes back
+unfoldable circle_bundle : List ℕ
+unfolding system_bundle
+circle_bundle = edited system_bundle (codes "'when':'!A'}") (codes "'when':'!A'},{'from':'s2','to':'s1','action':'back'}")
+
+unfoldable circle_case : (parents : List ℕ) → List ℕ
+unfolding system_case
+circle_case parents = edited
+    (edited system_case (codes "[1,3,'slip']") (codes "[1,3,'slip'],[2,1,'back']"))
+    (codes "'parents':[2,2,4]") (codes "'parents':" ++ parents)
+
+way_back_says_yes : audited circle_bundle (circle_case (codes "[2,2,4,0]")) ≡ Some None
+unfolding meaning_on_literals audited broken_at circle_bundle circle_case
+way_back_says_yes = refl
+
+way_back_round_a_circle : audited circle_bundle (circle_case (codes "[0,2,4,2]"))
+    ≡ Some (Some (record { clause = RefutedReplays; item = 3; sub = 0 }))
+unfolding meaning_on_literals audited broken_at circle_bundle circle_case
+way_back_round_a_circle = refl
