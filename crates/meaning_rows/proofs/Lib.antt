@@ -13,6 +13,7 @@ pub mod InfusionPump
 pub mod Samples
 pub mod StatusLines
 pub mod ThinForms
+pub mod TidySystem
 pub mod TramDoors
 pub mod VehicleBrakes
 pub mod WholeBundles
