@@ -10,6 +10,7 @@ pub mod BrokenTemplates
 pub mod BuiltStages
 pub mod CommandWords
 pub mod InfusionPump
+pub mod ReadDocuments
 pub mod Samples
 pub mod StatusLines
 pub mod ThinForms
