@@ -1,0 +1,5 @@
+pub mod formers
+pub mod View
+pub mod Order
+pub mod Written
+pub mod Places

@@ -1,0 +1,26 @@
+//! Documents: what the bytes of a bundle, a run or a case hold, as texts, whole numbers, truth
+//! values, lists and tables.
+//!
+//! `from_json` gives the document that the bytes are by the definitions of `meaning`, and refuses
+//! exactly the bytes that are none. `to_json` gives the compact text of a document, which reads
+//! back as that document, also with a newline after it. Contracts see a [`Doc`] by one function,
+//! `document` of `specs/View.antt`, and the accessors answer what `meaning` says of it.
+//!
+//! Stands on `serde_json`, and on `meaning` for the words of its contracts.
+#![tactic(auto)]
+
+mod doc;
+mod fault;
+mod read;
+mod row;
+mod word;
+mod write;
+
+pub use doc::Doc;
+pub use fault::{BundleFault, Part};
+pub use read::{DocStop, from_json};
+pub use row::Row;
+pub use word::{NoMemory, Word};
+
+#[cfg(test)]
+mod tests;
