@@ -223,3 +223,8 @@ no_new_variable_over_a_parameter = refl
 variable_of_a_parameter_again : fault_of (with_walks (codes "p: N")) ≡ Some (fault 26 Nodes 0 1 0)
 unfolding rules_on_literals
 variable_of_a_parameter_again = refl
+
+-- a query without a new variable that has a fault is told by its fault
+seventeen_constraints_without_a_variable : fault_of (with_walks (codes "with p [k] p" ++ repeated 16 (codes ", p [k] p"))) ≡ Some (fault 26 Nodes 0 1 149)
+unfolding rules_on_literals
+seventeen_constraints_without_a_variable = refl
