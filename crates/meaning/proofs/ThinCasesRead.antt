@@ -153,21 +153,38 @@ module _ (b : ThinBundle) (x : Enumeration) (good : IsProperThin b)
 
   goal_node : IsReadableNode case (goal_case_node b.goal)
   goal_node = record {
-    finding = refl; key = refl; parts = joined_are_texts (words b.goal ∷ []) (all_true _ _ good.goal refl); presence = id_fits 0;
-    branches = refl; no_solution = refl; branching = refl; arguing = refl;
+    finding = refl;
+    key = refl;
+    parts = joined_are_texts (words b.goal ∷ []) (all_true _ _ good.goal refl);
+    presence = id_fits 0;
+    branches = refl;
+    no_solution = refl;
+    branching = refl;
+    arguing = refl;
   }
 
   strategy_node : IsReadableNode case (strategy_case_node x ids)
   strategy_node = record {
-    finding = refl; key = ap is_text short_strategy_key; parts = joined_are_texts x.strategy strategy_texts; presence = id_fits 0;
-    branches = ids_fit (element_conditions es); no_solution = refl; branching = refl; arguing = refl;
+    finding = refl;
+    key = ap is_text short_strategy_key;
+    parts = joined_are_texts x.strategy strategy_texts;
+    presence = id_fits 0;
+    branches = ids_fit (element_conditions es);
+    no_solution = refl;
+    branching = refl;
+    arguing = refl;
   }
 
   element_node : (e : ℕ × ThinElement) → (e.0 < 2 ^ 64) × (is_text e.1.name ≡ true) → IsReadableNode case (element_case_node x met e)
   element_node e h = record {
-    finding = refl; key = key_is_text e.0 h.0;
+    finding = refl;
+    key = key_is_text e.0 h.0;
     parts = joined_are_texts (map (named_part e.1.name) x.goal) (named_are_texts e.1.name x.goal h.1 goal_texts);
-    presence = id_fits (condition e.1); branches = refl; no_solution = refl; branching = refl; arguing = refl;
+    presence = id_fits (condition e.1);
+    branches = refl;
+    no_solution = refl;
+    branching = refl;
+    arguing = refl;
   }
 
   element_nodes : Each (IsReadableNode case) (map (element_case_node x met) es)
@@ -185,9 +202,10 @@ module _ (b : ThinBundle) (x : Enumeration) (good : IsProperThin b)
   relations_from j [] l e = tt
   relations_from j (p ∷ ps) l e =
       let parts = both_true (is_id case p) (list_all (is_id case) ps) e in
-      let n = many_nodes in
-      (record { source = less 1 (length case.nodes) (omega (arith, n)); target = less j (length case.nodes) (omega (arith, l)); presence = parts.0 },
-      relations_from (j + 1) ps (omega (arith, l)) parts.1)
+      let n = many_nodes in (
+        record { source = less 1 (length case.nodes) (omega (arith, n)); target = less j (length case.nodes) (omega (arith, l)); presence = parts.0 },
+        relations_from (j + 1) ps (omega (arith, l)) parts.1,
+      )
 
   many_relations : (j : ℕ) (ps : List ℕ) → length (strategy_relations j ps) ≡ length ps
   many_relations j [] = refl
@@ -223,8 +241,10 @@ module _ (b : ThinBundle) (x : Enumeration) (good : IsProperThin b)
         few_rows = few_table;
         valid = id_fits 0;
         nodes = (goal_node, (strategy_node, element_nodes));
-        relations = (record { source = less 0 (length case.nodes) (omega (arith, n)); target = less 1 (length case.nodes) (omega (arith, n)); presence = id_fits 0 },
-            relations_from 2 ids (omega (arith, n, i)) (ids_fit (element_conditions es)));
+        relations = (
+          record { source = less 0 (length case.nodes) (omega (arith, n)); target = less 1 (length case.nodes) (omega (arith, n)); presence = id_fits 0 },
+          relations_from 2 ids (omega (arith, n, i)) (ids_fit (element_conditions es)),
+        );
         rows = thin_rows_fit (length (thin_names b)) met (less 0 (length (thin_names b)) (omega arith)) fresh;
       }
 
