@@ -4,3 +4,4 @@ pub mod Ordered
 pub mod Writing
 pub mod Newline
 pub mod Texts
+pub mod Walks

@@ -21,3 +21,6 @@ pub use fault::{BundleFault, Part};
 pub use read::{DocStop, from_json};
 pub use row::Row;
 pub use word::{NoMemory, Word};
+
+#[cfg(test)]
+mod tests;
