@@ -1,6 +1,6 @@
 -- The answers of a build to the bytes of a bundle, one for each way in which it goes.
-use Rattle.std.proofs.Common.{◌≡◌, refl, sym, ap, ◌∙◌, subst, ℕ, List, [], ◌∷◌, Bool, true, false}
-use Rattle.std.specs.Prelude.{Option, Some, None, ◌&&◌, if◌then◌else◌}
+use Rattle.std.proofs.Common.{lit<, ◌≡◌, refl, sym, ap, ◌∙◌, subst, ℕ, List, [], ◌∷◌, Bool, true, false}
+use Rattle.std.specs.Prelude.{Some, None, if◌then◌else◌}
 use Rattle.meaning.specs.Documents.{Document, Json, document_of, of_json}
 use Rattle.meaning.specs.ThinForm.{is_thin_goal}
 use Rattle.meaning.specs.ThinCases.{thin_case}
@@ -8,9 +8,9 @@ use Rattle.meaning.specs.CaseBytes.{case_bytes, case_data}
 use Rattle.meaning.specs.BundlePlaces.{is_table_value}
 use Rattle.meaning.specs.BundleRules.{no_table}
 use Rattle.meaning.specs.Statuses.{BadBundle, Unsupported}
-use Rattle.meaning.specs.Words.{Build, is_toml, form_named}
+use Rattle.meaning.specs.Words.{is_toml}
 use Rattle.meaning.specs.ThinTests.{one_goal_bundle_passes, one_goal_bundle}
-use Rattle.meaning.specs.Answers.{Answer, Prints, refusal, Stage, BundleReading, Faulty, NotBuilt, Good, AfterBundle, IsBuildAnswer, ShowsCase, IsAnswer, bundle_in, unless_faulty, if_built}
+use Rattle.meaning.specs.Answers.{Answer, Prints, refusal, BundleReading, Faulty, NotBuilt, Good, AfterBundle, IsBuildAnswer, ShowsCase, IsAnswer, bundle_in, unless_faulty, if_built}
 use Rattle.meaning.specs.Stages.{building_one_goal, built_form, faults_of_bytes, faults_of_table, faults_if_read}
 use Rattle.meaning.specs.Derivation.{bundle_of}
 use Rattle.meaning.proofs.ThinRules.{one_goal_passes_rules}
@@ -39,7 +39,7 @@ toml_is_not_built name bytes e = after name bytes NotBuilt (refusal Unsupported)
 
 -- the one fault that is named
 table_missing : (a : Answer) → a ≡ refusal (BadBundle no_table) → AfterBundle (Faulty (no_table ∷ [])) a (λ d b. IsBuildAnswer building_one_goal b ShowsCase a)
-table_missing a e = (no_table, ((0, (refl, refl)), e))
+table_missing a e = (no_table, (0, lit< tt, refl), e)
 
 pub no_document_is_faulty : (name bytes : List ℕ) → is_toml name ≡ false → document_of Json bytes ≡ None → AnswersBundle name bytes (refusal (BadBundle no_table))
 no_document_is_faulty name bytes json none =

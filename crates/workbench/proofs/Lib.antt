@@ -3,3 +3,5 @@ pub mod StatusLines
 pub mod NewNames
 pub mod OneItem
 pub mod BuildAnswers
+pub mod OneGoalCase
+pub mod TopCauses

@@ -1,15 +1,19 @@
 //! From the bytes of a bundle to the bytes of its case.
 
-ghost use Rattle.std.specs.Prelude.{◌≡◌, ◌∷◌, [], IfOk, IfErr, Err, Some, None};
+ghost use Rattle.std.specs.Prelude.{◌≡◌, ◌∷◌, [], IfOk, IfErr, Err, Some, None, true};
 ghost use Rattle.meaning.specs.Words as meaning;
 ghost use Rattle.meaning.specs.Documents.{Json, document_of};
 ghost use Rattle.meaning.specs.Answers.{Prints};
+ghost use Rattle.meaning.specs.BundlePlaces.{is_table_value};
+ghost use Rattle.meaning.specs.ThinTests.{one_goal_bundle_passes};
 ghost use Rattle.doc_tree.specs.View.{document};
 ghost use Rattle.workbench.specs.Run.{AnswersBundle, BuildsDocument, Refuses};
 
 use crate::status::Status;
 use crate::thin_bundle::is_one_goal_bundle;
-use doc_tree::{BundleFault, Doc, DocStop, Part, from_json};
+use crate::thin_case::one_goal_case;
+use doc_tree::{BundleFault, Doc, DocStop, NoMemory, Part, from_json};
+use lifted_case::write_thin;
 use std::alloc::Global;
 
 /// The one rule that is answered: the file is a document with a table at the top.
@@ -50,5 +54,19 @@ fn build_document(alloc: Global, bundle: &Doc) -> Result<Vec<u8>, Status>
     if !is_one_goal_bundle(bundle) {
         return Err(Status::Unsupported);
     }
-    Err(Status::NoMemory)
+    match write_one_goal(alloc, bundle) {
+        Ok(bytes) => Ok(bytes),
+        Err(NoMemory) => Err(Status::NoMemory),
+    }
+}
+
+/// The bytes of the case of a thin bundle with one goal.
+fn write_one_goal(alloc: Global, bundle: &Doc) -> Result<Vec<u8>, NoMemory>
+    requires table { is_table_value (document bundle.now) ≡ true }
+    requires passes { one_goal_bundle_passes (document bundle.now) ≡ true }
+    ensures { IfOk result (λ v. BuildsDocument (document bundle.now) (Prints v.items)) }
+{
+    let case = one_goal_case(alloc, bundle)?;
+    let bytes = write_thin(alloc, &case)?;
+    Ok(bytes)
 }

@@ -6,12 +6,14 @@ mod item_names;
 mod names;
 mod status;
 mod thin_bundle;
+mod thin_case;
 mod thin_line;
 mod thin_model;
+mod top;
 mod words;
 
-pub use item_names::{gives_name, names_pass};
-pub use names::{is_name, is_text, is_text_within};
+
+
 pub use status::Status;
-pub use thin_bundle::is_one_goal_bundle;
-pub use words::{DEFAULT_NODE_LIMIT, GREATEST_NODE_LIMIT, Invocation, Task, read_words};
+
+pub use top::run;

@@ -1,5 +1,6 @@
 ghost use Rattle.std.specs.Prelude.{◌≡◌, map, string_bytes, option_map};
-ghost use Rattle.workbench.specs.WordsView.{invocation_view};
+ghost use Rattle.meaning.specs.Words as meaning;
+ghost use Rattle.workbench.specs.WordsView.{invocation_view, task_view};
 ghost use Rattle.workbench.specs.PlainWords.{plain_invocation, build_of};
 ghost use Rattle.meaning.specs.Words.{limit_of, number_of};
 
@@ -8,6 +9,17 @@ ghost use Rattle.meaning.specs.Words.{limit_of, number_of};
 pub enum Task<'a> {
     /// Writes the case of a bundle.
     Build { bundle: &'a str },
+}
+
+impl<'a> Task<'a> {
+    /// The name of the bundle's file.
+    pub fn bundle(&self) -> &'a str
+        ensures { meaning.Build result.now ≡ task_view self.now }
+    {
+        match self {
+            Task::Build { bundle } => *bundle,
+        }
+    }
 }
 
 /// What the words of a command line ask for.
