@@ -39,3 +39,4 @@ pub mod ThinReading
 pub mod ThinTableFits
 pub mod ThinCasesRead
 pub mod EachTexts
+pub mod HoleTexts
