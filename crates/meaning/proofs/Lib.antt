@@ -40,3 +40,5 @@ pub mod ThinTableFits
 pub mod ThinCasesRead
 pub mod EachTexts
 pub mod HoleTexts
+pub mod StrategyTests
+pub mod StrategyRules
