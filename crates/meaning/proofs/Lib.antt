@@ -42,3 +42,4 @@ pub mod EachTexts
 pub mod HoleTexts
 pub mod StrategyTests
 pub mod StrategyRules
+pub mod ElementGoalRules
