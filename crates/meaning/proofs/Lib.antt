@@ -43,3 +43,4 @@ pub mod HoleTexts
 pub mod StrategyTests
 pub mod StrategyRules
 pub mod ElementGoalRules
+pub mod StrategyNodes

@@ -188,7 +188,7 @@ words_of m scope s h = ap (λ o. map (part_of m scope) (unwrap_or o [])) (plain_
     go (c ∷ cs) = refl
 
 -- the word of a goal's kind
-goal_word : (s : List ℕ) → kind_named s ≡ a_goal → s ≡ codes "goal"
+pub goal_word : (s : List ℕ) → kind_named s ≡ a_goal → s ≡ codes "goal"
 goal_word s e = (bytes_eq-Decides s (codes "goal")).0 (go (bytes_eq s (codes "goal")) (bytes_eq s (codes "strategy")) (bytes_eq s (codes "solution")) (bytes_eq s (codes "context"))
     (bytes_eq s (codes "assumption")) (bytes_eq s (codes "justification")) (bytes_eq s (codes "use")) (ap is_goal e))
   where
