@@ -44,3 +44,5 @@ pub mod StrategyTests
 pub mod StrategyRules
 pub mod ElementGoalRules
 pub mod StrategyNodes
+pub mod OneTemplateRules
+pub mod StrategyBundleRules

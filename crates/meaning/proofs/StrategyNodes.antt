@@ -32,28 +32,28 @@ same_text s = (bytes_eq-Decides s s).1 refl
 
 -- ---- the variables in scope at each node
 
-module _ (m : Model) (g s d : Document) where
-  abbrev ids : List (List ℕ)
+module _ (m : Model) (names : List (List ℕ)) (g s d : Document) where
+  abbrev pub ids : List (List ℕ)
   ids = id_in g ∷ id_in s ∷ id_in d ∷ []
 
-  abbrev placed_goal : Placed
-  placed_goal = place_under m [] [] ids [] g
+  abbrev pub placed_goal : Placed
+  placed_goal = place_under m names [] ids [] g
 
-  abbrev placed_strategy : Placed
-  placed_strategy = place_under m [] [] ids (placed_goal ∷ []) s
+  abbrev pub placed_strategy : Placed
+  placed_strategy = place_under m names [] ids (placed_goal ∷ []) s
 
-  abbrev placed_last : Placed
-  placed_last = place_under m [] [] ids (placed_goal ∷ placed_strategy ∷ []) d
+  abbrev pub placed_last : Placed
+  placed_last = place_under m names [] ids (placed_goal ∷ placed_strategy ∷ []) d
 
   module _ (each : member_of (codes "each") g ≡ None) (top : member_of (codes "under") g ≡ None) where
-    goal_scope : placed_goal.scope ≡ []
+    pub goal_scope : placed_goal.scope ≡ []
     goal_scope = rw top refl
 
-    goal_below : placed_goal.below ≡ []
+    pub goal_below : placed_goal.below ≡ []
     goal_below = rw (top, each) refl
 
-    strategy_scope : placed_strategy.scope ≡ []
-    strategy_scope = go (option_and_then (λ x. place_of x ids) (text_if (codes "under") s)) (annotates (kind_of [] [] s))
+    pub strategy_scope : placed_strategy.scope ≡ []
+    strategy_scope = go (option_and_then (λ x. place_of x ids) (text_if (codes "under") s)) (annotates (kind_of names [] s))
       where
         of_goal : (b : Bool) → (if b then placed_goal.scope else placed_goal.below) ≡ []
         of_goal true = goal_scope
@@ -69,7 +69,7 @@ module _ (m : Model) (g s d : Document) where
 
     module _ (p : StrategyParts s) (s_named : is_name (id_in s) ≡ true) (s_new : bytes_eq (id_in s) (id_in g) ≡ false)
         (q : GoalParts d) (under : stands_under s d ≡ true) (n : ℕ) (of_type : type_number m (type_of_each s) ≡ Some n) where
-      strategy_below : placed_strategy.below ≡ (variable_of s, n) ∷ []
+      pub strategy_below : placed_strategy.below ≡ (variable_of s, n) ∷ []
       strategy_below =
           ap (λ x. x ++ unwrap_or (option_map (λ q. q.0) (query_at m x (codes "each") s)) []) strategy_scope
           ∙ ap (λ o. unwrap_or (option_map (λ q. q.0) (option_and_then (query_of m []) o)) []) (told_each s p)
@@ -79,15 +79,15 @@ module _ (m : Model) (g s d : Document) where
           read : ℕ → Scope × Query
           read n = ((variable_of s, n) ∷ [], each_of_type n)
 
-      last_scope : placed_last.scope ≡ (variable_of s, n) ∷ []
+      pub last_scope : placed_last.scope ≡ (variable_of s, n) ∷ []
       last_scope =
-          ap (λ o. scope_for (placed_goal ∷ placed_strategy ∷ []) [] (option_and_then (λ x. place_of x ids) o) (annotates (kind_of [] [] d))) (named_member (id_in s) (codes "under") d s_named under).1
-          ∙ ap (λ b. scope_for (placed_goal ∷ placed_strategy ∷ []) [] (if b then Some 0 else option_map suc (place_of (id_in s) (id_in s ∷ id_in d ∷ []))) (annotates (kind_of [] [] d))) s_new
-          ∙ ap (λ b. scope_for (placed_goal ∷ placed_strategy ∷ []) [] (option_map suc (if b then Some 0 else option_map suc (place_of (id_in s) (id_in d ∷ [])))) (annotates (kind_of [] [] d))) (same_text (id_in s))
+          ap (λ o. scope_for (placed_goal ∷ placed_strategy ∷ []) [] (option_and_then (λ x. place_of x ids) o) (annotates (kind_of names [] d))) (named_member (id_in s) (codes "under") d s_named under).1
+          ∙ ap (λ b. scope_for (placed_goal ∷ placed_strategy ∷ []) [] (if b then Some 0 else option_map suc (place_of (id_in s) (id_in s ∷ id_in d ∷ []))) (annotates (kind_of names [] d))) s_new
+          ∙ ap (λ b. scope_for (placed_goal ∷ placed_strategy ∷ []) [] (option_map suc (if b then Some 0 else option_map suc (place_of (id_in s) (id_in d ∷ [])))) (annotates (kind_of names [] d))) (same_text (id_in s))
           ∙ ap (λ b. if b then placed_strategy.scope else placed_strategy.below) no_annotation
           ∙ strategy_below
         where
-          no_annotation : annotates (kind_of [] [] d) ≡ false
+          no_annotation : annotates (kind_of names [] d) ≡ false
           no_annotation = rw (goal_word (text_at (codes "kind") d) q.kind) refl
 
 -- ---- truth values
@@ -144,7 +144,7 @@ module _ (m : Model) (t : Document) (types : List (List ℕ)) (known : map (λ d
   c = context_of m (t ∷ []) (0, t)
 
   scope_is : (g s d : Document) → list_at (codes "nodes") t ≡ g ∷ s ∷ d ∷ [] → (j : ℕ)
-      → scope_of c j ≡ or_empty (slice_get ((placed_goal m g s d).scope ∷ (placed_strategy m g s d).scope ∷ (placed_last m g s d).scope ∷ []) j)
+      → scope_of c j ≡ or_empty (slice_get ((placed_goal m [] g s d).scope ∷ (placed_strategy m [] g s d).scope ∷ (placed_last m [] g s d).scope ∷ []) j)
   scope_is g s d e j =
       ap (λ ns. or_empty (slice_get (map (λ p. p.scope) (nodes_after m [] (map (parameter_of m) (list_at (codes "params") t)) (map id_in ns) [] ns)) j)) e
       ∙ ap (λ ps. or_empty (slice_get (map (λ p. p.scope) (nodes_after m [] (map (parameter_of m) ps) (id_in g ∷ id_in s ∷ id_in d ∷ []) [] (g ∷ s ∷ d ∷ []))) j)) alone
@@ -162,7 +162,7 @@ module _ (m : Model) (t : Document) (types : List (List ℕ)) (known : map (λ d
       let g_named = goal_has_name g eg in
       same_both _ _ _ _
       (strategy_is_plain c types known g s refl (ap (λ ns. take 1 (map id_in ns)) e) (ap (λ ns. slice_get ns 0) e)
-      (scope_is g s d e 1 ∙ strategy_scope m g s d p.each no_top) g_named p.kind)
+      (scope_is g s d e 1 ∙ strategy_scope m [] g s d p.each no_top) g_named p.kind)
       (λ es.
       let f = strategy_facts types g s es in
       let q = strategy_parts s f.plain in
@@ -170,7 +170,7 @@ module _ (m : Model) (t : Document) (types : List (List ℕ)) (known : map (λ d
       let of_type : type_number m (type_of_each s) ≡ Some place.0 = ap (place_of (type_of_each s)) known ∙ place.1 in
       element_goal_is_plain c g s d place.0 refl (ap (λ ns. take 2 (map id_in ns)) e) (ap (λ ns. slice_get ns 1) e)
       (λ i. let two = both_true (is_plain_goal d) (stands_under s d) i in
-      scope_is g s d e 2 ∙ last_scope m g s d p.each no_top q f.named f.new (goal_parts d two.0) two.1 place.0 of_type)
+      scope_is g s d e 2 ∙ last_scope m [] g s d p.each no_top q f.named f.new (goal_parts d two.0) two.1 place.0 of_type)
       q.variable f.named f.new q.kind))
 
   pub thin_nodes_are : (ns : List Document) → list_at (codes "nodes") t ≡ ns
