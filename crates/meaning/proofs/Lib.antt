@@ -46,3 +46,4 @@ pub mod ElementGoalRules
 pub mod StrategyNodes
 pub mod OneTemplateRules
 pub mod StrategyBundleRules
+pub mod StrategyDocuments

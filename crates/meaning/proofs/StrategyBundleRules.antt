@@ -31,7 +31,7 @@ some_node : (types : List (List ℕ)) (ns : List Document) → nodes_pass types 
 some_node types [] e = absurd (let n : false ≡ true = e in cc)
 some_node types (g ∷ gs) e = not_none (length gs)
 
-known_types : (features : List (List ℕ)) (d : Document) → list_all is_name features ≡ true → model_passes features (model_in d) ≡ true
+pub known_types : (features : List (List ℕ)) (d : Document) → list_all is_name features ≡ true → model_passes features (model_in d) ≡ true
     → map (λ x. x.name) (model_of features d).types ≡ type_names_in d
 known_types features d named e = ap (λ m. map (λ x. x.name) m.types) (passing_model features d named e) ∙ plain_type_names (type_names_in d)
 

@@ -204,7 +204,7 @@ goal_word s e = (bytes_eq-Decides s (codes "goal")).0 (go (bytes_eq s (codes "go
     go false false false false false false false e = e
 
 module _ (m : Model) (templates ids : List (List ℕ)) where
-  goal_is : (g : Document) → goal_passes g ≡ true → (place_under m templates [] ids [] g).node ≡ thin_node Goal None (goal_words (text_at (codes "text") g)) None
+  pub goal_is : (g : Document) → goal_passes g ≡ true → (place_under m templates [] ids [] g).node ≡ thin_node Goal None (goal_words (text_at (codes "text") g)) None
   goal_is g e =
       let tests = passing_goal g e in
       let p = goal_parts g tests.0 in
@@ -254,7 +254,7 @@ passing_parts d e =
     let by_line = both_true _ _ by_model.0 in
     record { itself = by_line.0; line = by_line.1; model = by_model.1; template = by_template.1 }
 
-abbrev bundle_with : List ℕ → Line → Model → List Template → Bundle
+abbrev pub bundle_with : List ℕ → Line → Model → List Template → Bundle
 bundle_with title line model templates = record { title = title; line = line; model = model; templates = templates }
 
 pub one_goal_is_bundle : (d : Document) → one_goal_bundle_passes d ≡ true → bundle_of d ≡ bundle (one_goal_bundle d)
