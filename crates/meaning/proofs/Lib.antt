@@ -47,3 +47,4 @@ pub mod StrategyNodes
 pub mod OneTemplateRules
 pub mod StrategyBundleRules
 pub mod StrategyDocuments
+pub mod StrategyReading

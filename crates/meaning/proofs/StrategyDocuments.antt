@@ -77,6 +77,21 @@ last_facts g s d e =
     go true false n x p u e = absurd (let n : false ≡ true = e in cc)
     go false i n x p u e = absurd (let n : false ≡ true = e in cc)
 
+pub passing_thin_template : (types : List (List ℕ)) (t : Document) → thin_template_passes types t ≡ true
+    → (none_in (codes "params") t ≡ true) × (nodes_pass types (list_at (codes "nodes") t) ≡ true)
+passing_thin_template types t e =
+    go (template_has_form t) (is_name (name_in t)) (may_have is_list_value (codes "params") t) (none_in (codes "params") t)
+    (needs is_list_value (codes "nodes") t) (nodes_pass types (list_at (codes "nodes") t)) e
+  where
+    go : (f n m p k g : Bool) → ((((f && n) && (m && p)) && k) && g) ≡ true → (p ≡ true) × (g ≡ true)
+    go true true true true true true e = (refl, refl)
+    go true true true true true false e = absurd (let n : false ≡ true = e in cc)
+    go true true true true false g e = absurd (let n : false ≡ true = e in cc)
+    go true true true false k g e = absurd (let n : false ≡ true = e in cc)
+    go true true false p k g e = absurd (let n : false ≡ true = e in cc)
+    go true false m p k g e = absurd (let n : false ≡ true = e in cc)
+    go false n m p k g e = absurd (let n : false ≡ true = e in cc)
+
 -- the word of a strategy's kind
 strategy_word : (s : List ℕ) → kind_named s ≡ a_strategy → s ≡ codes "strategy"
 strategy_word s e = (bytes_eq-Decides s (codes "strategy")).0 (go (bytes_eq s (codes "goal")) (bytes_eq s (codes "strategy")) (bytes_eq s (codes "solution")) (bytes_eq s (codes "context"))
@@ -146,3 +161,62 @@ module _ (m : Model) (names types : List (List ℕ)) (known : map (λ d. d.name)
       ∙ ap (λ n. thin_node Goal None (goal_words (text_at (codes "text") g)) None
       ∷ thin_node Strategy (Some 0) (map strategy_part (map strategy_piece (segments_of (text_at (codes "text") s)))) (Some (each_of_type n))
       ∷ thin_node Goal (Some 1) (map goal_part (map goal_piece (segments_of (text_at (codes "text") d)))) None ∷ []) number
+
+  pub nodes_are : (ns : List Document) → nodes_pass types ns ≡ true
+      → map (λ p. p.node) (nodes_after m names [] (map id_in ns) [] ns) ≡ thin_node Goal None (goal_words (first_text ns)) None ∷ enumeration_nodes (enumeration_in types ns)
+  nodes_are [] e = absurd (let n : false ≡ true = e in cc)
+  nodes_are (g ∷ []) e = ap (λ n. n ∷ []) (goal_is m names (id_in g ∷ []) g e)
+  nodes_are (g ∷ s ∷ []) e = absurd (let n : false ≡ true = e in cc)
+  nodes_are (g ∷ s ∷ d ∷ x ∷ xs) e = absurd (let n : false ≡ true = e in cc)
+  nodes_are (g ∷ s ∷ d ∷ []) e =
+      let last = both_true (goal_passes g && strategy_passes types g s) (element_goal_passes g s d) e in
+      let first = both_true (goal_passes g) (strategy_passes types g s) last.0 in
+      three_are g s d first.0 first.1 last.1
+
+  pub templates_are : (ts : List Document) → one_thin_template_passes types ts ≡ true
+      → map (template_of m names) ts ≡ thin_template (template_name ts) (goal_text ts) (enumeration_of_template types ts) ∷ []
+  templates_are [] e = absurd (let n : false ≡ true = e in cc)
+  templates_are (t ∷ u ∷ us) e = absurd (let n : false ≡ true = e in cc)
+  templates_are (t ∷ []) e =
+      let parts = passing_thin_template types t e in
+      ap (λ ps. with_nodes (nodes_after m names (map (parameter_of m) ps) (map id_in (list_at (codes "nodes") t)) [] (list_at (codes "nodes") t))) (empty_list (list_at (codes "params") t) parts.0)
+      ∙ ap (λ ns. record { name = name_in t; nodes = ns } ∷ []) (nodes_are (list_at (codes "nodes") t) parts.1)
+    where
+      with_nodes : List Placed → List Template
+      with_nodes ps = record { name = name_in t; nodes = map (λ p. p.node) ps } ∷ []
+
+-- ---- all of it
+
+pub record ThinPassingParts (d : Document) : Type 0 where
+  pub itself : bundle_passes d ≡ true
+  pub line : line_passes (line_in d) ≡ true
+  pub model : model_passes (feature_names_in d) (model_in d) ≡ true
+  pub template : one_thin_template_passes (type_names_in d) (templates_in d) ≡ true
+
+pub thin_passing_parts : (d : Document) → thin_bundle_passes d ≡ true → ThinPassingParts d
+unfolding thin_bundle_passes
+thin_passing_parts d e =
+    let by_template = both_true _ _ e in
+    let by_list = both_true _ _ by_template.0 in
+    let by_model = both_true _ _ by_list.0 in
+    let by_line = both_true _ _ by_model.0 in
+    record { itself = by_line.0; line = by_line.1; model = by_model.1; template = by_template.1 }
+
+pub thin_is_bundle : (d : Document) → thin_bundle_passes d ≡ true → bundle_of d ≡ bundle (thin_bundle d)
+unfolding bundle_of thin_bundle templates_of
+thin_is_bundle d e =
+    let p = thin_passing_parts d e in
+    let named = line_has_names (line_in d) p.line in
+    ap (λ fs. bundle_with title (line_of d) (model_of fs d) (templates_of (model_of fs d) d)) (names_of_line d)
+    ∙ ap (λ l. bundle_with title l model (templates_of model d)) (passing_line d p.line)
+    ∙ ap (λ ts. bundle_with title (thin_line (first_name (feature_names_in d)) (other_names (feature_names_in d))) model ts)
+    (templates_are model (map (text_at (codes "name")) (templates_in d)) (type_names_in d) (known_types (feature_names_in d) d named p.model) (templates_in d) p.template)
+    ∙ ap (λ m. bundle_with title (thin_line (first_name (feature_names_in d)) (other_names (feature_names_in d))) m
+    (thin_template (template_name (templates_in d)) (goal_text (templates_in d)) (enumeration_of_template (type_names_in d) (templates_in d)) ∷ []))
+    (passing_model (feature_names_in d) d named p.model)
+  where
+    title : List ℕ
+    title = text_at (codes "title") d
+
+    model : Model
+    model = model_of (feature_names_in d) d

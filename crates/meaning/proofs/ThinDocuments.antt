@@ -286,7 +286,7 @@ module _ (features types : List (List ℕ)) (n : ℕ) (many : length features �
       let below : place.0 < length features = place.2 in
       subst (λ o. condition (record { name = []; of_type = 0; feature = o }) < suc n) (sym place.1) (omega (arith, below, many))
 
-  known_conditions : (ds : List Document) → list_all (is_thin_element features) ds ≡ true
+  pub known_conditions : (ds : List Document) → list_all (is_thin_element features) ds ≡ true
       → Each (λ x. condition x < suc n) (map (thin_element_in features types) ds)
   known_conditions [] e = tt
   known_conditions (d ∷ ds) e =
