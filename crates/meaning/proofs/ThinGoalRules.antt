@@ -64,6 +64,15 @@ passing_goal g e =
     no_hole : (f i t m h k u x r : Bool) → ((((((((f && i) && t) && m) && h) && k) && u) && x) && r) ≡ true → h ≡ true
     no_hole f i t m h k u x r e = grind (arith, common_steps)
 
+-- its identifier is a name
+pub goal_has_name : (g : Document) → goal_passes g ≡ true → is_name (id_in g) ≡ true
+goal_has_name g e =
+    go (node_has_form g) (is_name (id_in g)) (has (codes "text") g) (member_within 512 (codes "text") g) (has_no_holes g) (is_goal (kind_in g))
+    (not (has (codes "under") g)) (not (has (codes "each") g)) (has_no_more_members g) e
+  where
+    go : (f i t m h k u x r : Bool) → ((((((((f && i) && t) && m) && h) && k) && u) && x) && r) ≡ true → i ≡ true
+    go f i t m h k u x r e = grind (arith, common_steps)
+
 -- its text is within its limit
 pub goal_fits : (g : Document) → goal_passes g ≡ true → member_within 512 (codes "text") g ≡ true
 goal_fits g e =
