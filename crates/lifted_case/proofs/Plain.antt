@@ -1,8 +1,6 @@
 -- What is plain is written as it was read.
-use Rattle.std.proofs.Common.{◌≡◌, ◌^◌, ℕ, ℤ, pos, negsuc, List, [], ◌∷◌, map, Bool, true, false, ◌&&◌, if◌then◌else◌, refl, sym, ap, ap₂, ◌∙◌}
-use Rattle.std.specs.Prelude.{nat_lt}
+use Rattle.std.proofs.Common.{◌≡◌, ℕ, pos, negsuc, List, Bool, true, false, ◌&&◌, if◌then◌else◌, refl, ap, ap₂, ◌∙◌}
 use Rattle.serde_json.specs.Data.{Num, unsigned, negative, float, Data, null, boolean, number, string, array, object, Items, no_items, item, Members, no_members, member}
-use Rattle.serde_json.specs.Data as json
 use Rattle.meaning.specs.Documents.{Document, of_json, of_number, items_of_json, members_of_json, or_left_out}
 use Rattle.meaning.specs.Documents as meaning
 use Rattle.doc_tree.specs.Order.{has_no_other, items_have_no_other, values_have_no_other}
