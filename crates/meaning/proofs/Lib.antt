@@ -25,3 +25,17 @@ pub mod ThinTidy
 pub mod ThinNodes
 pub mod ThinWhole
 pub mod ThinBuild
+pub mod EmptyLists
+pub mod ItemRules
+pub mod NameTexts
+pub mod ThinLineRules
+pub mod PlainTypes
+pub mod ThinModelRules
+pub mod ThinGoalRules
+pub mod ThinRules
+pub mod ThinDocuments
+pub mod CaseReadsBack
+pub mod ThinReading
+pub mod ThinTableFits
+pub mod ThinCasesRead
+pub mod EachTexts

@@ -60,6 +60,16 @@ ToldBy o [] [] = ⊤
 ToldBy o (f ∷ fs) (bytes ∷ more) = (o.holds f.name ≡ Some bytes) × ToldBy o fs more
 ToldBy o _ _ = ⊥
 
+-- the file has these bytes, where the shelf tells it
+abbrev pub IfTold : Option (List ℕ) → List ℕ → Type 0
+IfTold told bytes = (those : List ℕ) → told ≡ Some those → those ≡ bytes
+
+-- the bytes of the files, in order: those that the shelf tells where it tells them, and within the limit of each
+abbrev pub AgreeWith : Outside → List File → List (List ℕ) → Type 0
+AgreeWith o [] [] = ⊤
+AgreeWith o (f ∷ fs) (bytes ∷ more) = IfTold (o.holds f.name) bytes × ((length bytes ≤ f.most) × AgreeWith o fs more)
+AgreeWith o _ _ = ⊥
+
 -- ---- what a status promises: one record for each way to end
 
 -- the words have no reading
@@ -86,12 +96,14 @@ pub record IsTooLong (stage : Stage) (words : List (List ℕ)) (before after : O
   pub taken : RoseBy (before.given file.name) (after.given file.name) (file.most + 1)
   pub longer : (bytes : List ℕ) → before.holds file.name ≡ Some bytes → file.most < length bytes
 
--- the files are within their limits, and where the shelf tells them this is the task's answer to them
+-- the task's answer to the bytes of its files. Where the shelf tells a file these are its bytes, and none has more than it may have.
+-- So where it tells one file, a refusal for that file is no answer to other bytes, whatever it tells of the rest
 pub record Answered (stage : Stage) (words : List (List ℕ)) (before : Outside) (answer : Answer) : Type 0 where
   pub invocation : Invocation
   pub reads : stage.reads words ≡ Some invocation
-  pub within : AllWithin before (files_of invocation.task)
-  pub told : (files : List (List ℕ)) → ToldBy before (files_of invocation.task) files → IsAnswer stage invocation.task files answer
+  pub files : List (List ℕ)
+  pub agree : AgreeWith before (files_of invocation.task) files
+  pub is : IsAnswer stage invocation.task files answer
 
 -- the whole answer was printed
 pub record IsDone (stage : Stage) (words : List (List ℕ)) (before after : Outside) : Type 0 where

@@ -1,5 +1,5 @@
 -- Replaying runs, and auditing, computed by the check.
-use Rattle.std.specs.Prelude.{◌≡◌, ℕ, List, [], ◌∷◌, Bool, true, false, Option, Some, None, refl, codes, option_map}
+use Rattle.std.specs.Prelude.{◌++◌, ◌≡◌, ℕ, List, [], ◌∷◌, Bool, true, false, Option, Some, None, refl, codes, option_map}
 use Rattle.meaning.specs.Documents.{Json, document_of}
 use Rattle.meaning.specs.CaseReading.{CaseReading, Broken, read_case}
 use Rattle.meaning.specs.CaseReading as reading
@@ -8,39 +8,75 @@ use Rattle.meaning.specs.Evidence.{shown, text_of_evidence}
 use Rattle.meaning.specs.Replay.{RunFault, RunReading, Refused, Is, NoTable, WrongForm, NoSystem, UnknownStart, NoTransition, run_of, Replayed, NotInitial, NotJoined, NotPresent, Ends, replay_answer}
 use Rattle.meaning.specs.Audits.{Place, SameFeatures, ValidExactly, SystemsAsModelled, InitialReached, ReachedClosed, ChecksRead, SupportedSafe, RefutedViolates, RefutedReplays, broken_at, first_broken_among}
 use Rattle.meaning.specs.Worlds.{worlds}
-use Rattle.meaning_rows.proofs.WorkedCases.{meaning_on_literals}
+use Rattle.meaning_rows.proofs.Samples.{json, edited, system_bundle, system_case, meaning_on_literals}
 
-system_bundle : List ℕ
-system_bundle =
-    codes "{\"bundle\":1,\"title\":\"Row\",\"line\":{\"features\":[{\"name\":\"R\"},{\"name\":\"A\",\"parent\":\"R\"},{\"name\":\"B\",\"parent\":\"R\"}]},\"model\":{\"types\":[{\"name\":\"N\",\"system\":true}],\"labels\":[\"bad\"],\"elements\":[{\"name\":\"c\",\"type\":\"N\"}],\"systems\":[{\"element\":\"c\",\"states\":[{\"name\":\"s0\",\"initial\":true},{\"name\":\"s1\"},{\"name\":\"s2\"},{\"name\":\"bad\",\"labels\":[\"bad\"]}],\"transitions\":[{\"from\":\"s0\",\"to\":\"s1\",\"action\":\"go\"},{\"from\":\"s1\",\"to\":\"s2\",\"action\":\"go\"},{\"from\":\"s1\",\"to\":\"bad\",\"action\":\"slip\",\"when\":\"!A\"}]}]},\"templates\":[{\"name\":\"Top\",\"nodes\":[{\"id\":\"g\",\"kind\":\"goal\",\"text\":\"All\"},{\"id\":\"s\",\"kind\":\"strategy\",\"under\":\"g\",\"text\":\"Over {#}\",\"each\":\"n: N\"},{\"id\":\"c\",\"kind\":\"goal\",\"under\":\"s\",\"text\":\"{n.name} is safe\"},{\"id\":\"e\",\"kind\":\"solution\",\"under\":\"c\",\"text\":\"Check\",\"check\":{\"never\":\"bad\",\"of\":\"n\"}}]}]}"
+unfoldable two_ways_bundle : List ℕ
+two_ways_bundle = json (
+    codes "{'bundle':1,'title':'Row','line':{'features':[{'name':'R'},{'name':'A','parent':'R'},{'name':'B',"
+    ++ codes "'parent':'R'}]},'model':{'types':[{'name':'N','system':true}],'labels':['bad'],'elements':[{'name':'c',"
+    ++ codes "'type':'N'}],'systems':[{'element':'c','states':[{'name':'s0','initial':true},{'name':'a'},{'name':'b'},"
+    ++ codes "{'name':'bad','labels':['bad']}],'transitions':[{'from':'s0','to':'b','action':'x'},{'from':'s0',"
+    ++ codes "'to':'a','action':'y'},{'from':'a','to':'bad','action':'z'},{'from':'b','to':'bad','action':'w'}]}]},"
+    ++ codes "'templates':[{'name':'Top','nodes':[{'id':'g','kind':'goal','text':'All'},{'id':'s','kind':'strategy',"
+    ++ codes "'under':'g','text':'Over {#}','each':'n: N'},{'id':'c','kind':'goal','under':'s',"
+    ++ codes "'text':'{n.name} is safe'},{'id':'e','kind':'solution','under':'c','text':'Check',"
+    ++ codes "'check':{'never':'bad','of':'n'}}]}]}")
 
-two_ways_bundle : List ℕ
-two_ways_bundle =
-    codes "{\"bundle\":1,\"title\":\"Row\",\"line\":{\"features\":[{\"name\":\"R\"},{\"name\":\"A\",\"parent\":\"R\"},{\"name\":\"B\",\"parent\":\"R\"}]},\"model\":{\"types\":[{\"name\":\"N\",\"system\":true}],\"labels\":[\"bad\"],\"elements\":[{\"name\":\"c\",\"type\":\"N\"}],\"systems\":[{\"element\":\"c\",\"states\":[{\"name\":\"s0\",\"initial\":true},{\"name\":\"a\"},{\"name\":\"b\"},{\"name\":\"bad\",\"labels\":[\"bad\"]}],\"transitions\":[{\"from\":\"s0\",\"to\":\"b\",\"action\":\"x\"},{\"from\":\"s0\",\"to\":\"a\",\"action\":\"y\"},{\"from\":\"a\",\"to\":\"bad\",\"action\":\"z\"},{\"from\":\"b\",\"to\":\"bad\",\"action\":\"w\"}]}]},\"templates\":[{\"name\":\"Top\",\"nodes\":[{\"id\":\"g\",\"kind\":\"goal\",\"text\":\"All\"},{\"id\":\"s\",\"kind\":\"strategy\",\"under\":\"g\",\"text\":\"Over {#}\",\"each\":\"n: N\"},{\"id\":\"c\",\"kind\":\"goal\",\"under\":\"s\",\"text\":\"{n.name} is safe\"},{\"id\":\"e\",\"kind\":\"solution\",\"under\":\"c\",\"text\":\"Check\",\"check\":{\"never\":\"bad\",\"of\":\"n\"}}]}]}"
+unfoldable bad_start_bundle : List ℕ
+bad_start_bundle = json (
+    codes "{'bundle':1,'title':'Row','line':{'features':[{'name':'R'},{'name':'A','parent':'R'},{'name':'B',"
+    ++ codes "'parent':'R'}]},'model':{'types':[{'name':'N','system':true}],'labels':['bad'],'elements':[{'name':'c',"
+    ++ codes "'type':'N'}],'systems':[{'element':'c','states':[{'name':'s0','initial':true,'labels':['bad']},"
+    ++ codes "{'name':'a'},{'name':'b'},{'name':'bad','labels':['bad']}],'transitions':[{'from':'s0','to':'b',"
+    ++ codes "'action':'x'},{'from':'s0','to':'a','action':'y'},{'from':'a','to':'bad','action':'z'},{'from':'b',"
+    ++ codes "'to':'bad','action':'w'}]}]},'templates':[{'name':'Top','nodes':[{'id':'g','kind':'goal','text':'All'},"
+    ++ codes "{'id':'s','kind':'strategy','under':'g','text':'Over {#}','each':'n: N'},{'id':'c','kind':'goal',"
+    ++ codes "'under':'s','text':'{n.name} is safe'},{'id':'e','kind':'solution','under':'c','text':'Check',"
+    ++ codes "'check':{'never':'bad','of':'n'}}]}]}")
 
-bad_start_bundle : List ℕ
-bad_start_bundle =
-    codes "{\"bundle\":1,\"title\":\"Row\",\"line\":{\"features\":[{\"name\":\"R\"},{\"name\":\"A\",\"parent\":\"R\"},{\"name\":\"B\",\"parent\":\"R\"}]},\"model\":{\"types\":[{\"name\":\"N\",\"system\":true}],\"labels\":[\"bad\"],\"elements\":[{\"name\":\"c\",\"type\":\"N\"}],\"systems\":[{\"element\":\"c\",\"states\":[{\"name\":\"s0\",\"initial\":true,\"labels\":[\"bad\"]},{\"name\":\"a\"},{\"name\":\"b\"},{\"name\":\"bad\",\"labels\":[\"bad\"]}],\"transitions\":[{\"from\":\"s0\",\"to\":\"b\",\"action\":\"x\"},{\"from\":\"s0\",\"to\":\"a\",\"action\":\"y\"},{\"from\":\"a\",\"to\":\"bad\",\"action\":\"z\"},{\"from\":\"b\",\"to\":\"bad\",\"action\":\"w\"}]}]},\"templates\":[{\"name\":\"Top\",\"nodes\":[{\"id\":\"g\",\"kind\":\"goal\",\"text\":\"All\"},{\"id\":\"s\",\"kind\":\"strategy\",\"under\":\"g\",\"text\":\"Over {#}\",\"each\":\"n: N\"},{\"id\":\"c\",\"kind\":\"goal\",\"under\":\"s\",\"text\":\"{n.name} is safe\"},{\"id\":\"e\",\"kind\":\"solution\",\"under\":\"c\",\"text\":\"Check\",\"check\":{\"never\":\"bad\",\"of\":\"n\"}}]}]}"
+unfoldable deadlock_bundle : List ℕ
+deadlock_bundle = json (
+    codes "{'bundle':1,'title':'Row','line':{'features':[{'name':'R'},{'name':'A','parent':'R'},{'name':'B',"
+    ++ codes "'parent':'R'}]},'model':{'types':[{'name':'N','system':true}],'labels':['bad'],'elements':[{'name':'c',"
+    ++ codes "'type':'N'}],'systems':[{'element':'c','states':[{'name':'s0','initial':true}],"
+    ++ codes "'transitions':[{'from':'s0','to':'s0','action':'p','when':'A'},{'from':'s0','to':'s0','action':'q',"
+    ++ codes "'when':'B'}]}]},'templates':[{'name':'Top','nodes':[{'id':'g','kind':'goal','text':'All'},{'id':'s',"
+    ++ codes "'kind':'strategy','under':'g','text':'Over {#}','each':'n: N'},{'id':'c','kind':'goal','under':'s',"
+    ++ codes "'text':'{n.name} is safe'},{'id':'e','kind':'solution','under':'c','text':'Check',"
+    ++ codes "'check':{'deadlock':'n'}}]}]}")
 
-deadlock_bundle : List ℕ
-deadlock_bundle =
-    codes "{\"bundle\":1,\"title\":\"Row\",\"line\":{\"features\":[{\"name\":\"R\"},{\"name\":\"A\",\"parent\":\"R\"},{\"name\":\"B\",\"parent\":\"R\"}]},\"model\":{\"types\":[{\"name\":\"N\",\"system\":true}],\"labels\":[\"bad\"],\"elements\":[{\"name\":\"c\",\"type\":\"N\"}],\"systems\":[{\"element\":\"c\",\"states\":[{\"name\":\"s0\",\"initial\":true}],\"transitions\":[{\"from\":\"s0\",\"to\":\"s0\",\"action\":\"p\",\"when\":\"A\"},{\"from\":\"s0\",\"to\":\"s0\",\"action\":\"q\",\"when\":\"B\"}]}]},\"templates\":[{\"name\":\"Top\",\"nodes\":[{\"id\":\"g\",\"kind\":\"goal\",\"text\":\"All\"},{\"id\":\"s\",\"kind\":\"strategy\",\"under\":\"g\",\"text\":\"Over {#}\",\"each\":\"n: N\"},{\"id\":\"c\",\"kind\":\"goal\",\"under\":\"s\",\"text\":\"{n.name} is safe\"},{\"id\":\"e\",\"kind\":\"solution\",\"under\":\"c\",\"text\":\"Check\",\"check\":{\"deadlock\":\"n\"}}]}]}"
+unfoldable two_ways_case : List ℕ
+two_ways_case = json (
+    codes "{'case':1,'features':['R','A','B'],'nodes':[{'key':'0','kind':'goal','text':['All'],'when':2},"
+    ++ codes "{'branches':[2],'key':'0/1','kind':'strategy','text':['Over ',0],'when':2},{'key':'0/1/0:2',"
+    ++ codes "'kind':'goal','text':['c is safe'],'when':2},{'finding':{'check':'never','expr':'bad','refuted':2,"
+    ++ codes "'system':0,'targets':[[3,2]]},'key':'0/1/0:2/3','kind':'solution','text':['Check'],'when':2}],"
+    ++ codes "'relations':[{'from':0,'kind':'supported','to':1,'when':2},{'from':1,'kind':'supported','to':2,"
+    ++ codes "'when':2},{'from':2,'kind':'supported','to':3,'when':2}],'systems':[{'element':'c','parents':[2,2,2,0],"
+    ++ codes "'reached':[2,2,2,2],'states':['s0','a','b','bad'],'transitions':[[0,2,'x'],[0,1,'y'],[1,3,'z'],[2,3,"
+    ++ codes "'w']]}],'table':[[0,0,1]],'title':'Row','valid':2}" ++ codes "\n")
 
-system_case : List ℕ
-system_case =
-    codes "{\"case\":1,\"features\":[\"R\",\"A\",\"B\"],\"nodes\":[{\"key\":\"0\",\"kind\":\"goal\",\"text\":[\"All\"],\"when\":2},{\"branches\":[2],\"key\":\"0/1\",\"kind\":\"strategy\",\"text\":[\"Over \",0],\"when\":2},{\"key\":\"0/1/0:2\",\"kind\":\"goal\",\"text\":[\"c is safe\"],\"when\":2},{\"finding\":{\"check\":\"never\",\"expr\":\"bad\",\"refuted\":4,\"system\":0,\"targets\":[[3,4]]},\"key\":\"0/1/0:2/3\",\"kind\":\"solution\",\"text\":[\"Check\"],\"when\":2}],\"relations\":[{\"from\":0,\"kind\":\"supported\",\"to\":1,\"when\":2},{\"from\":1,\"kind\":\"supported\",\"to\":2,\"when\":2},{\"from\":2,\"kind\":\"supported\",\"to\":3,\"when\":2}],\"systems\":[{\"element\":\"c\",\"parents\":[2,2,4],\"reached\":[2,2,2,4],\"states\":[\"s0\",\"s1\",\"s2\",\"bad\"],\"transitions\":[[0,1,\"go\"],[1,2,\"go\"],[1,3,\"slip\"]]}],\"table\":[[0,0,1],[1,1,0],[0,0,3]],\"title\":\"Row\",\"valid\":2}\n"
+unfoldable bad_start_case : List ℕ
+bad_start_case = json (
+    codes "{'case':1,'features':['R','A','B'],'nodes':[{'key':'0','kind':'goal','text':['All'],'when':2},"
+    ++ codes "{'branches':[2],'key':'0/1','kind':'strategy','text':['Over ',0],'when':2},{'key':'0/1/0:2',"
+    ++ codes "'kind':'goal','text':['c is safe'],'when':2},{'finding':{'check':'never','expr':'bad','refuted':2,"
+    ++ codes "'system':0,'targets':[[0,2]]},'key':'0/1/0:2/3','kind':'solution','text':['Check'],'when':2}],"
+    ++ codes "'relations':[{'from':0,'kind':'supported','to':1,'when':2},{'from':1,'kind':'supported','to':2,"
+    ++ codes "'when':2},{'from':2,'kind':'supported','to':3,'when':2}],'systems':[{'element':'c','parents':[2,2,2,0],"
+    ++ codes "'reached':[2,2,2,2],'states':['s0','a','b','bad'],'transitions':[[0,2,'x'],[0,1,'y'],[1,3,'z'],[2,3,"
+    ++ codes "'w']]}],'table':[[0,0,1]],'title':'Row','valid':2}" ++ codes "\n")
 
-two_ways_case : List ℕ
-two_ways_case =
-    codes "{\"case\":1,\"features\":[\"R\",\"A\",\"B\"],\"nodes\":[{\"key\":\"0\",\"kind\":\"goal\",\"text\":[\"All\"],\"when\":2},{\"branches\":[2],\"key\":\"0/1\",\"kind\":\"strategy\",\"text\":[\"Over \",0],\"when\":2},{\"key\":\"0/1/0:2\",\"kind\":\"goal\",\"text\":[\"c is safe\"],\"when\":2},{\"finding\":{\"check\":\"never\",\"expr\":\"bad\",\"refuted\":2,\"system\":0,\"targets\":[[3,2]]},\"key\":\"0/1/0:2/3\",\"kind\":\"solution\",\"text\":[\"Check\"],\"when\":2}],\"relations\":[{\"from\":0,\"kind\":\"supported\",\"to\":1,\"when\":2},{\"from\":1,\"kind\":\"supported\",\"to\":2,\"when\":2},{\"from\":2,\"kind\":\"supported\",\"to\":3,\"when\":2}],\"systems\":[{\"element\":\"c\",\"parents\":[2,2,2,0],\"reached\":[2,2,2,2],\"states\":[\"s0\",\"a\",\"b\",\"bad\"],\"transitions\":[[0,2,\"x\"],[0,1,\"y\"],[1,3,\"z\"],[2,3,\"w\"]]}],\"table\":[[0,0,1]],\"title\":\"Row\",\"valid\":2}\n"
-
-bad_start_case : List ℕ
-bad_start_case =
-    codes "{\"case\":1,\"features\":[\"R\",\"A\",\"B\"],\"nodes\":[{\"key\":\"0\",\"kind\":\"goal\",\"text\":[\"All\"],\"when\":2},{\"branches\":[2],\"key\":\"0/1\",\"kind\":\"strategy\",\"text\":[\"Over \",0],\"when\":2},{\"key\":\"0/1/0:2\",\"kind\":\"goal\",\"text\":[\"c is safe\"],\"when\":2},{\"finding\":{\"check\":\"never\",\"expr\":\"bad\",\"refuted\":2,\"system\":0,\"targets\":[[0,2]]},\"key\":\"0/1/0:2/3\",\"kind\":\"solution\",\"text\":[\"Check\"],\"when\":2}],\"relations\":[{\"from\":0,\"kind\":\"supported\",\"to\":1,\"when\":2},{\"from\":1,\"kind\":\"supported\",\"to\":2,\"when\":2},{\"from\":2,\"kind\":\"supported\",\"to\":3,\"when\":2}],\"systems\":[{\"element\":\"c\",\"parents\":[2,2,2,0],\"reached\":[2,2,2,2],\"states\":[\"s0\",\"a\",\"b\",\"bad\"],\"transitions\":[[0,2,\"x\"],[0,1,\"y\"],[1,3,\"z\"],[2,3,\"w\"]]}],\"table\":[[0,0,1]],\"title\":\"Row\",\"valid\":2}\n"
-
-deadlock_case : List ℕ
-deadlock_case =
-    codes "{\"case\":1,\"features\":[\"R\",\"A\",\"B\"],\"nodes\":[{\"key\":\"0\",\"kind\":\"goal\",\"text\":[\"All\"],\"when\":2},{\"branches\":[2],\"key\":\"0/1\",\"kind\":\"strategy\",\"text\":[\"Over \",0],\"when\":2},{\"key\":\"0/1/0:2\",\"kind\":\"goal\",\"text\":[\"c is safe\"],\"when\":2},{\"finding\":{\"check\":\"deadlock\",\"refuted\":5,\"system\":0,\"targets\":[[0,5]]},\"key\":\"0/1/0:2/3\",\"kind\":\"solution\",\"text\":[\"Check\"],\"when\":2}],\"relations\":[{\"from\":0,\"kind\":\"supported\",\"to\":1,\"when\":2},{\"from\":1,\"kind\":\"supported\",\"to\":2,\"when\":2},{\"from\":2,\"kind\":\"supported\",\"to\":3,\"when\":2}],\"systems\":[{\"element\":\"c\",\"parents\":[0,0],\"reached\":[2],\"states\":[\"s0\"],\"transitions\":[[0,0,\"p\"],[0,0,\"q\"]]}],\"table\":[[0,0,1],[2,1,0],[1,3,0],[0,0,4]],\"title\":\"Row\",\"valid\":2}\n"
+unfoldable deadlock_case : List ℕ
+deadlock_case = json (
+    codes "{'case':1,'features':['R','A','B'],'nodes':[{'key':'0','kind':'goal','text':['All'],'when':2},"
+    ++ codes "{'branches':[2],'key':'0/1','kind':'strategy','text':['Over ',0],'when':2},{'key':'0/1/0:2',"
+    ++ codes "'kind':'goal','text':['c is safe'],'when':2},{'finding':{'check':'deadlock','refuted':5,'system':0,"
+    ++ codes "'targets':[[0,5]]},'key':'0/1/0:2/3','kind':'solution','text':['Check'],'when':2}],"
+    ++ codes "'relations':[{'from':0,'kind':'supported','to':1,'when':2},{'from':1,'kind':'supported','to':2,"
+    ++ codes "'when':2},{'from':2,'kind':'supported','to':3,'when':2}],'systems':[{'element':'c','parents':[0,0],"
+    ++ codes "'reached':[2],'states':['s0'],'transitions':[[0,0,'p'],[0,0,'q']]}],'table':[[0,0,1],[2,1,0],[1,3,0],[0,"
+    ++ codes "0,4]],'title':'Row','valid':2}" ++ codes "\n")
 
 -- what replaying a run document answers on a bundle at a world
 data Outcome : Type 0 where
@@ -183,98 +219,107 @@ deadlock_says_yes : audited deadlock_bundle deadlock_case ≡ Some (None)
 unfolding meaning_on_literals audited broken_at deadlock_bundle deadlock_case
 deadlock_says_yes = refl
 
-not_closed_case : List ℕ
-not_closed_case =
-    codes "{\"case\":1,\"features\":[\"R\",\"A\",\"B\"],\"nodes\":[{\"key\":\"0\",\"kind\":\"goal\",\"text\":[\"All\"],\"when\":2},{\"branches\":[2],\"key\":\"0/1\",\"kind\":\"strategy\",\"text\":[\"Over \",0],\"when\":2},{\"key\":\"0/1/0:2\",\"kind\":\"goal\",\"text\":[\"c is safe\"],\"when\":2},{\"finding\":{\"check\":\"never\",\"expr\":\"bad\",\"refuted\":4,\"system\":0,\"targets\":[[3,4]]},\"key\":\"0/1/0:2/3\",\"kind\":\"solution\",\"text\":[\"Check\"],\"when\":2}],\"relations\":[{\"from\":0,\"kind\":\"supported\",\"to\":1,\"when\":2},{\"from\":1,\"kind\":\"supported\",\"to\":2,\"when\":2},{\"from\":2,\"kind\":\"supported\",\"to\":3,\"when\":2}],\"systems\":[{\"element\":\"c\",\"parents\":[2,2,4],\"reached\":[2,2,0,4],\"states\":[\"s0\",\"s1\",\"s2\",\"bad\"],\"transitions\":[[0,1,\"go\"],[1,2,\"go\"],[1,3,\"slip\"]]}],\"table\":[[0,0,1],[1,1,0],[0,0,3]],\"title\":\"Row\",\"valid\":2}\n"
+unfoldable not_closed_case : List ℕ
+not_closed_case = edited system_case (codes ",2,2") (codes ",2,0")
 
 not_closed : audited system_bundle not_closed_case ≡ Some (Some (record { clause = ReachedClosed; item = 0; sub = 1 }))
 unfolding meaning_on_literals audited broken_at system_bundle not_closed_case
 not_closed = refl
 
-other_features_case : List ℕ
-other_features_case =
-    codes "{\"case\":1,\"features\":[\"R\",\"B\",\"A\"],\"nodes\":[{\"key\":\"0\",\"kind\":\"goal\",\"text\":[\"All\"],\"when\":2},{\"branches\":[2],\"key\":\"0/1\",\"kind\":\"strategy\",\"text\":[\"Over \",0],\"when\":2},{\"key\":\"0/1/0:2\",\"kind\":\"goal\",\"text\":[\"c is safe\"],\"when\":2},{\"finding\":{\"check\":\"never\",\"expr\":\"bad\",\"refuted\":4,\"system\":0,\"targets\":[[3,4]]},\"key\":\"0/1/0:2/3\",\"kind\":\"solution\",\"text\":[\"Check\"],\"when\":2}],\"relations\":[{\"from\":0,\"kind\":\"supported\",\"to\":1,\"when\":2},{\"from\":1,\"kind\":\"supported\",\"to\":2,\"when\":2},{\"from\":2,\"kind\":\"supported\",\"to\":3,\"when\":2}],\"systems\":[{\"element\":\"c\",\"parents\":[2,2,4],\"reached\":[2,2,2,4],\"states\":[\"s0\",\"s1\",\"s2\",\"bad\"],\"transitions\":[[0,1,\"go\"],[1,2,\"go\"],[1,3,\"slip\"]]}],\"table\":[[0,0,1],[1,1,0],[0,0,3]],\"title\":\"Row\",\"valid\":2}\n"
+unfoldable other_features_case : List ℕ
+other_features_case = edited (edited system_case (codes "'R',") (codes "'R','B',")) (codes "'A','B'") (codes "'A'")
 
 other_features : audited system_bundle other_features_case ≡ Some (Some (record { clause = SameFeatures; item = 0; sub = 0 }))
 unfolding meaning_on_literals audited broken_at system_bundle other_features_case
 other_features = refl
 
-other_valid_case : List ℕ
-other_valid_case =
-    codes "{\"case\":1,\"features\":[\"R\",\"A\",\"B\"],\"nodes\":[{\"key\":\"0\",\"kind\":\"goal\",\"text\":[\"All\"],\"when\":2},{\"branches\":[2],\"key\":\"0/1\",\"kind\":\"strategy\",\"text\":[\"Over \",0],\"when\":2},{\"key\":\"0/1/0:2\",\"kind\":\"goal\",\"text\":[\"c is safe\"],\"when\":2},{\"finding\":{\"check\":\"never\",\"expr\":\"bad\",\"refuted\":4,\"system\":0,\"targets\":[[3,4]]},\"key\":\"0/1/0:2/3\",\"kind\":\"solution\",\"text\":[\"Check\"],\"when\":2}],\"relations\":[{\"from\":0,\"kind\":\"supported\",\"to\":1,\"when\":2},{\"from\":1,\"kind\":\"supported\",\"to\":2,\"when\":2},{\"from\":2,\"kind\":\"supported\",\"to\":3,\"when\":2}],\"systems\":[{\"element\":\"c\",\"parents\":[2,2,4],\"reached\":[2,2,2,4],\"states\":[\"s0\",\"s1\",\"s2\",\"bad\"],\"transitions\":[[0,1,\"go\"],[1,2,\"go\"],[1,3,\"slip\"]]}],\"table\":[[0,0,1],[1,1,0],[0,0,3]],\"title\":\"Row\",\"valid\":1}\n"
+unfoldable other_valid_case : List ℕ
+other_valid_case = edited system_case (codes "'valid':2") (codes "'valid':1")
 
 other_valid : audited system_bundle other_valid_case ≡ Some (Some (record { clause = ValidExactly; item = 0; sub = 0 }))
 unfolding meaning_on_literals audited broken_at system_bundle other_valid_case
 other_valid = refl
 
-other_action_case : List ℕ
-other_action_case =
-    codes "{\"case\":1,\"features\":[\"R\",\"A\",\"B\"],\"nodes\":[{\"key\":\"0\",\"kind\":\"goal\",\"text\":[\"All\"],\"when\":2},{\"branches\":[2],\"key\":\"0/1\",\"kind\":\"strategy\",\"text\":[\"Over \",0],\"when\":2},{\"key\":\"0/1/0:2\",\"kind\":\"goal\",\"text\":[\"c is safe\"],\"when\":2},{\"finding\":{\"check\":\"never\",\"expr\":\"bad\",\"refuted\":4,\"system\":0,\"targets\":[[3,4]]},\"key\":\"0/1/0:2/3\",\"kind\":\"solution\",\"text\":[\"Check\"],\"when\":2}],\"relations\":[{\"from\":0,\"kind\":\"supported\",\"to\":1,\"when\":2},{\"from\":1,\"kind\":\"supported\",\"to\":2,\"when\":2},{\"from\":2,\"kind\":\"supported\",\"to\":3,\"when\":2}],\"systems\":[{\"element\":\"c\",\"parents\":[2,2,4],\"reached\":[2,2,2,4],\"states\":[\"s0\",\"s1\",\"s2\",\"bad\"],\"transitions\":[[0,1,\"go\"],[1,2,\"go\"],[1,3,\"slide\"]]}],\"table\":[[0,0,1],[1,1,0],[0,0,3]],\"title\":\"Row\",\"valid\":2}\n"
+unfoldable other_action_case : List ℕ
+other_action_case = edited system_case (codes "'slip'") (codes "'slide'")
 
 other_action : audited system_bundle other_action_case ≡ Some (Some (record { clause = SystemsAsModelled; item = 0; sub = 0 }))
 unfolding meaning_on_literals audited broken_at system_bundle other_action_case
 other_action = refl
 
-other_element_case : List ℕ
-other_element_case =
-    codes "{\"case\":1,\"features\":[\"R\",\"A\",\"B\"],\"nodes\":[{\"key\":\"0\",\"kind\":\"goal\",\"text\":[\"All\"],\"when\":2},{\"branches\":[2],\"key\":\"0/1\",\"kind\":\"strategy\",\"text\":[\"Over \",0],\"when\":2},{\"key\":\"0/1/0:2\",\"kind\":\"goal\",\"text\":[\"c is safe\"],\"when\":2},{\"finding\":{\"check\":\"never\",\"expr\":\"bad\",\"refuted\":4,\"system\":0,\"targets\":[[3,4]]},\"key\":\"0/1/0:2/3\",\"kind\":\"solution\",\"text\":[\"Check\"],\"when\":2}],\"relations\":[{\"from\":0,\"kind\":\"supported\",\"to\":1,\"when\":2},{\"from\":1,\"kind\":\"supported\",\"to\":2,\"when\":2},{\"from\":2,\"kind\":\"supported\",\"to\":3,\"when\":2}],\"systems\":[{\"element\":\"d\",\"parents\":[2,2,4],\"reached\":[2,2,2,4],\"states\":[\"s0\",\"s1\",\"s2\",\"bad\"],\"transitions\":[[0,1,\"go\"],[1,2,\"go\"],[1,3,\"slip\"]]}],\"table\":[[0,0,1],[1,1,0],[0,0,3]],\"title\":\"Row\",\"valid\":2}\n"
+unfoldable other_element_case : List ℕ
+other_element_case = edited system_case (codes "'element':'c'") (codes "'element':'d'")
 
 other_element : audited system_bundle other_element_case ≡ Some (Some (record { clause = SystemsAsModelled; item = 0; sub = 0 }))
 unfolding meaning_on_literals audited broken_at system_bundle other_element_case
 other_element = refl
 
-initial_not_reached_case : List ℕ
-initial_not_reached_case =
-    codes "{\"case\":1,\"features\":[\"R\",\"A\",\"B\"],\"nodes\":[{\"key\":\"0\",\"kind\":\"goal\",\"text\":[\"All\"],\"when\":2},{\"branches\":[2],\"key\":\"0/1\",\"kind\":\"strategy\",\"text\":[\"Over \",0],\"when\":2},{\"key\":\"0/1/0:2\",\"kind\":\"goal\",\"text\":[\"c is safe\"],\"when\":2},{\"finding\":{\"check\":\"never\",\"expr\":\"bad\",\"refuted\":4,\"system\":0,\"targets\":[[3,4]]},\"key\":\"0/1/0:2/3\",\"kind\":\"solution\",\"text\":[\"Check\"],\"when\":2}],\"relations\":[{\"from\":0,\"kind\":\"supported\",\"to\":1,\"when\":2},{\"from\":1,\"kind\":\"supported\",\"to\":2,\"when\":2},{\"from\":2,\"kind\":\"supported\",\"to\":3,\"when\":2}],\"systems\":[{\"element\":\"c\",\"parents\":[2,2,4],\"reached\":[0,2,2,4],\"states\":[\"s0\",\"s1\",\"s2\",\"bad\"],\"transitions\":[[0,1,\"go\"],[1,2,\"go\"],[1,3,\"slip\"]]}],\"table\":[[0,0,1],[1,1,0],[0,0,3]],\"title\":\"Row\",\"valid\":2}\n"
+unfoldable initial_not_reached_case : List ℕ
+initial_not_reached_case = edited system_case (codes "'reached':[2") (codes "'reached':[0")
 
 initial_not_reached : audited system_bundle initial_not_reached_case ≡ Some (Some (record { clause = InitialReached; item = 0; sub = 0 }))
 unfolding meaning_on_literals audited broken_at system_bundle initial_not_reached_case
 initial_not_reached = refl
 
-check_does_not_read_case : List ℕ
-check_does_not_read_case =
-    codes "{\"case\":1,\"features\":[\"R\",\"A\",\"B\"],\"nodes\":[{\"key\":\"0\",\"kind\":\"goal\",\"text\":[\"All\"],\"when\":2},{\"branches\":[2],\"key\":\"0/1\",\"kind\":\"strategy\",\"text\":[\"Over \",0],\"when\":2},{\"key\":\"0/1/0:2\",\"kind\":\"goal\",\"text\":[\"c is safe\"],\"when\":2},{\"finding\":{\"check\":\"never\",\"expr\":\"bad &\",\"refuted\":4,\"system\":0,\"targets\":[[3,4]]},\"key\":\"0/1/0:2/3\",\"kind\":\"solution\",\"text\":[\"Check\"],\"when\":2}],\"relations\":[{\"from\":0,\"kind\":\"supported\",\"to\":1,\"when\":2},{\"from\":1,\"kind\":\"supported\",\"to\":2,\"when\":2},{\"from\":2,\"kind\":\"supported\",\"to\":3,\"when\":2}],\"systems\":[{\"element\":\"c\",\"parents\":[2,2,4],\"reached\":[2,2,2,4],\"states\":[\"s0\",\"s1\",\"s2\",\"bad\"],\"transitions\":[[0,1,\"go\"],[1,2,\"go\"],[1,3,\"slip\"]]}],\"table\":[[0,0,1],[1,1,0],[0,0,3]],\"title\":\"Row\",\"valid\":2}\n"
+unfoldable check_does_not_read_case : List ℕ
+check_does_not_read_case = edited system_case (codes "'expr':'bad'") (codes "'expr':'bad &'")
 
 check_does_not_read : audited system_bundle check_does_not_read_case ≡ Some (Some (record { clause = ChecksRead; item = 3; sub = 0 }))
 unfolding meaning_on_literals audited broken_at system_bundle check_does_not_read_case
 check_does_not_read = refl
 
-never_refuted_case : List ℕ
-never_refuted_case =
-    codes "{\"case\":1,\"features\":[\"R\",\"A\",\"B\"],\"nodes\":[{\"key\":\"0\",\"kind\":\"goal\",\"text\":[\"All\"],\"when\":2},{\"branches\":[2],\"key\":\"0/1\",\"kind\":\"strategy\",\"text\":[\"Over \",0],\"when\":2},{\"key\":\"0/1/0:2\",\"kind\":\"goal\",\"text\":[\"c is safe\"],\"when\":2},{\"finding\":{\"check\":\"never\",\"expr\":\"bad\",\"refuted\":0,\"system\":0,\"targets\":[[3,4]]},\"key\":\"0/1/0:2/3\",\"kind\":\"solution\",\"text\":[\"Check\"],\"when\":2}],\"relations\":[{\"from\":0,\"kind\":\"supported\",\"to\":1,\"when\":2},{\"from\":1,\"kind\":\"supported\",\"to\":2,\"when\":2},{\"from\":2,\"kind\":\"supported\",\"to\":3,\"when\":2}],\"systems\":[{\"element\":\"c\",\"parents\":[2,2,4],\"reached\":[2,2,2,4],\"states\":[\"s0\",\"s1\",\"s2\",\"bad\"],\"transitions\":[[0,1,\"go\"],[1,2,\"go\"],[1,3,\"slip\"]]}],\"table\":[[0,0,1],[1,1,0],[0,0,3]],\"title\":\"Row\",\"valid\":2}\n"
+unfoldable never_refuted_case : List ℕ
+never_refuted_case = edited system_case (codes "'refuted':4") (codes "'refuted':0")
 
 never_refuted : audited system_bundle never_refuted_case ≡ Some (Some (record { clause = SupportedSafe; item = 3; sub = 3 }))
 unfolding meaning_on_literals audited broken_at system_bundle never_refuted_case
 never_refuted = refl
 
-always_refuted_case : List ℕ
-always_refuted_case =
-    codes "{\"case\":1,\"features\":[\"R\",\"A\",\"B\"],\"nodes\":[{\"key\":\"0\",\"kind\":\"goal\",\"text\":[\"All\"],\"when\":2},{\"branches\":[2],\"key\":\"0/1\",\"kind\":\"strategy\",\"text\":[\"Over \",0],\"when\":2},{\"key\":\"0/1/0:2\",\"kind\":\"goal\",\"text\":[\"c is safe\"],\"when\":2},{\"finding\":{\"check\":\"never\",\"expr\":\"bad\",\"refuted\":2,\"system\":0,\"targets\":[[3,4]]},\"key\":\"0/1/0:2/3\",\"kind\":\"solution\",\"text\":[\"Check\"],\"when\":2}],\"relations\":[{\"from\":0,\"kind\":\"supported\",\"to\":1,\"when\":2},{\"from\":1,\"kind\":\"supported\",\"to\":2,\"when\":2},{\"from\":2,\"kind\":\"supported\",\"to\":3,\"when\":2}],\"systems\":[{\"element\":\"c\",\"parents\":[2,2,4],\"reached\":[2,2,2,4],\"states\":[\"s0\",\"s1\",\"s2\",\"bad\"],\"transitions\":[[0,1,\"go\"],[1,2,\"go\"],[1,3,\"slip\"]]}],\"table\":[[0,0,1],[1,1,0],[0,0,3]],\"title\":\"Row\",\"valid\":2}\n"
+unfoldable always_refuted_case : List ℕ
+always_refuted_case = edited system_case (codes "'refuted':4") (codes "'refuted':2")
 
 always_refuted : audited system_bundle always_refuted_case ≡ Some (Some (record { clause = RefutedViolates; item = 3; sub = 0 }))
 unfolding meaning_on_literals audited broken_at system_bundle always_refuted_case
 always_refuted = refl
 
-no_target_case : List ℕ
-no_target_case =
-    codes "{\"case\":1,\"features\":[\"R\",\"A\",\"B\"],\"nodes\":[{\"key\":\"0\",\"kind\":\"goal\",\"text\":[\"All\"],\"when\":2},{\"branches\":[2],\"key\":\"0/1\",\"kind\":\"strategy\",\"text\":[\"Over \",0],\"when\":2},{\"key\":\"0/1/0:2\",\"kind\":\"goal\",\"text\":[\"c is safe\"],\"when\":2},{\"finding\":{\"check\":\"never\",\"expr\":\"bad\",\"refuted\":4,\"system\":0,\"targets\":[]},\"key\":\"0/1/0:2/3\",\"kind\":\"solution\",\"text\":[\"Check\"],\"when\":2}],\"relations\":[{\"from\":0,\"kind\":\"supported\",\"to\":1,\"when\":2},{\"from\":1,\"kind\":\"supported\",\"to\":2,\"when\":2},{\"from\":2,\"kind\":\"supported\",\"to\":3,\"when\":2}],\"systems\":[{\"element\":\"c\",\"parents\":[2,2,4],\"reached\":[2,2,2,4],\"states\":[\"s0\",\"s1\",\"s2\",\"bad\"],\"transitions\":[[0,1,\"go\"],[1,2,\"go\"],[1,3,\"slip\"]]}],\"table\":[[0,0,1],[1,1,0],[0,0,3]],\"title\":\"Row\",\"valid\":2}\n"
+unfoldable no_target_case : List ℕ
+no_target_case = edited system_case (codes "[3,4]") (
+    codes "")
 
 no_target : audited system_bundle no_target_case ≡ Some (Some (record { clause = RefutedViolates; item = 3; sub = 0 }))
 unfolding meaning_on_literals audited broken_at system_bundle no_target_case
 no_target = refl
 
-good_target_case : List ℕ
-good_target_case =
-    codes "{\"case\":1,\"features\":[\"R\",\"A\",\"B\"],\"nodes\":[{\"key\":\"0\",\"kind\":\"goal\",\"text\":[\"All\"],\"when\":2},{\"branches\":[2],\"key\":\"0/1\",\"kind\":\"strategy\",\"text\":[\"Over \",0],\"when\":2},{\"key\":\"0/1/0:2\",\"kind\":\"goal\",\"text\":[\"c is safe\"],\"when\":2},{\"finding\":{\"check\":\"never\",\"expr\":\"bad\",\"refuted\":4,\"system\":0,\"targets\":[[2,4]]},\"key\":\"0/1/0:2/3\",\"kind\":\"solution\",\"text\":[\"Check\"],\"when\":2}],\"relations\":[{\"from\":0,\"kind\":\"supported\",\"to\":1,\"when\":2},{\"from\":1,\"kind\":\"supported\",\"to\":2,\"when\":2},{\"from\":2,\"kind\":\"supported\",\"to\":3,\"when\":2}],\"systems\":[{\"element\":\"c\",\"parents\":[2,2,4],\"reached\":[2,2,2,4],\"states\":[\"s0\",\"s1\",\"s2\",\"bad\"],\"transitions\":[[0,1,\"go\"],[1,2,\"go\"],[1,3,\"slip\"]]}],\"table\":[[0,0,1],[1,1,0],[0,0,3]],\"title\":\"Row\",\"valid\":2}\n"
+unfoldable good_target_case : List ℕ
+good_target_case = edited system_case (codes ":[[3") (codes ":[[2")
 
 good_target : audited system_bundle good_target_case ≡ Some (Some (record { clause = RefutedViolates; item = 3; sub = 0 }))
 unfolding meaning_on_literals audited broken_at system_bundle good_target_case
 good_target = refl
 
-no_way_back_case : List ℕ
-no_way_back_case =
-    codes "{\"case\":1,\"features\":[\"R\",\"A\",\"B\"],\"nodes\":[{\"key\":\"0\",\"kind\":\"goal\",\"text\":[\"All\"],\"when\":2},{\"branches\":[2],\"key\":\"0/1\",\"kind\":\"strategy\",\"text\":[\"Over \",0],\"when\":2},{\"key\":\"0/1/0:2\",\"kind\":\"goal\",\"text\":[\"c is safe\"],\"when\":2},{\"finding\":{\"check\":\"never\",\"expr\":\"bad\",\"refuted\":4,\"system\":0,\"targets\":[[3,4]]},\"key\":\"0/1/0:2/3\",\"kind\":\"solution\",\"text\":[\"Check\"],\"when\":2}],\"relations\":[{\"from\":0,\"kind\":\"supported\",\"to\":1,\"when\":2},{\"from\":1,\"kind\":\"supported\",\"to\":2,\"when\":2},{\"from\":2,\"kind\":\"supported\",\"to\":3,\"when\":2}],\"systems\":[{\"element\":\"c\",\"parents\":[0,2,4],\"reached\":[2,2,2,4],\"states\":[\"s0\",\"s1\",\"s2\",\"bad\"],\"transitions\":[[0,1,\"go\"],[1,2,\"go\"],[1,3,\"slip\"]]}],\"table\":[[0,0,1],[1,1,0],[0,0,3]],\"title\":\"Row\",\"valid\":2}\n"
+unfoldable no_way_back_case : List ℕ
+no_way_back_case = edited system_case (codes "'parents':[2") (codes "'parents':[0")
 
 no_way_back : audited system_bundle no_way_back_case ≡ Some (Some (record { clause = RefutedReplays; item = 3; sub = 0 }))
 unfolding meaning_on_literals audited broken_at system_bundle no_way_back_case
 no_way_back = refl
+
+-- a transition back from the third state to the second, over which no run goes back
+unfoldable circle_bundle : List ℕ
+unfolding system_bundle
+circle_bundle = edited system_bundle (codes "'when':'!A'}") (codes "'when':'!A'},{'from':'s2','to':'s1','action':'back'}")
+
+unfoldable circle_case : (parents : List ℕ) → List ℕ
+unfolding system_case
+circle_case parents = edited
+    (edited system_case (codes "[1,3,'slip']") (codes "[1,3,'slip'],[2,1,'back']"))
+    (codes "'parents':[2,2,4]") (codes "'parents':" ++ parents)
+
+way_back_says_yes : audited circle_bundle (circle_case (codes "[2,2,4,0]")) ≡ Some None
+unfolding meaning_on_literals audited broken_at circle_bundle circle_case
+way_back_says_yes = refl
+
+way_back_round_a_circle : audited circle_bundle (circle_case (codes "[0,2,4,2]"))
+    ≡ Some (Some (record { clause = RefutedReplays; item = 3; sub = 0 }))
+unfolding meaning_on_literals audited broken_at circle_bundle circle_case
+way_back_round_a_circle = refl

@@ -13,11 +13,7 @@ use Rattle.meaning.specs.RuleViolations.{violations_among, violation_lines}
 use Rattle.meaning.specs.Statuses.{status_line, RulesBroken}
 use Rattle.meaning.specs.Generator.{bundle_of_seed, summary}
 use Rattle.meaning.specs.Entries.{Entry, of_node, of_branch, of_target, of_witness, entries_at, keys_at, solutions_at, refuted_at}
-use Rattle.meaning_rows.proofs.WorkedCases.{meaning_on_literals}
-
-system_case : List ℕ
-system_case =
-    codes "{\"case\":1,\"features\":[\"R\",\"A\",\"B\"],\"nodes\":[{\"key\":\"0\",\"kind\":\"goal\",\"text\":[\"All\"],\"when\":2},{\"branches\":[2],\"key\":\"0/1\",\"kind\":\"strategy\",\"text\":[\"Over \",0],\"when\":2},{\"key\":\"0/1/0:2\",\"kind\":\"goal\",\"text\":[\"c is safe\"],\"when\":2},{\"finding\":{\"check\":\"never\",\"expr\":\"bad\",\"refuted\":4,\"system\":0,\"targets\":[[3,4]]},\"key\":\"0/1/0:2/3\",\"kind\":\"solution\",\"text\":[\"Check\"],\"when\":2}],\"relations\":[{\"from\":0,\"kind\":\"supported\",\"to\":1,\"when\":2},{\"from\":1,\"kind\":\"supported\",\"to\":2,\"when\":2},{\"from\":2,\"kind\":\"supported\",\"to\":3,\"when\":2}],\"systems\":[{\"element\":\"c\",\"parents\":[2,2,4],\"reached\":[2,2,2,4],\"states\":[\"s0\",\"s1\",\"s2\",\"bad\"],\"transitions\":[[0,1,\"go\"],[1,2,\"go\"],[1,3,\"slip\"]]}],\"table\":[[0,0,1],[1,1,0],[0,0,3]],\"title\":\"Row\",\"valid\":2}\n"
+use Rattle.meaning_rows.proofs.Samples.{json, edited, smallest_case, system_case, meaning_on_literals}
 
 -- ---- reports
 
@@ -32,9 +28,19 @@ report_of_system : reported 3 system_case ≡ report_of_system_text
 unfolding meaning_on_literals reported report_text system_case report_of_system_text
 report_of_system = refl
 
-nested_case : List ℕ
-nested_case =
-    codes "{\"case\":1,\"features\":[\"R\",\"A\",\"B\"],\"nodes\":[{\"key\":\"0\",\"kind\":\"goal\",\"text\":[\"All\"],\"when\":5},{\"branches\":[7,9],\"key\":\"0/1\",\"kind\":\"strategy\",\"text\":[\"Over \",0],\"when\":5},{\"key\":\"0/1/0:2\",\"kind\":\"goal\",\"text\":[\"Handle x\"],\"when\":7},{\"branches\":[7],\"key\":\"0/1/0:2/3\",\"kind\":\"strategy\",\"text\":[\"Over \",0],\"when\":7},{\"key\":\"0/1/0:2/3/0:4\",\"kind\":\"goal\",\"text\":[\"x to x\"],\"when\":7},{\"key\":\"0/1/1:2\",\"kind\":\"goal\",\"text\":[\"Handle y\"],\"when\":9},{\"branches\":[9],\"key\":\"0/1/1:2/3\",\"kind\":\"strategy\",\"text\":[\"Over \",0],\"when\":9},{\"key\":\"0/1/1:2/3/1:4\",\"kind\":\"goal\",\"text\":[\"y to y\"],\"when\":9}],\"relations\":[{\"from\":0,\"kind\":\"supported\",\"to\":1,\"when\":5},{\"from\":1,\"kind\":\"supported\",\"to\":2,\"when\":7},{\"from\":2,\"kind\":\"supported\",\"to\":3,\"when\":7},{\"from\":3,\"kind\":\"supported\",\"to\":4,\"when\":7},{\"from\":1,\"kind\":\"supported\",\"to\":5,\"when\":9},{\"from\":5,\"kind\":\"supported\",\"to\":6,\"when\":9},{\"from\":6,\"kind\":\"supported\",\"to\":7,\"when\":9}],\"systems\":[],\"table\":[[2,0,1],[2,1,0],[1,2,3],[0,0,4],[1,0,3],[0,0,6],[1,2,0],[0,0,8]],\"title\":\"Row\",\"valid\":5}\n"
+unfoldable nested_case : List ℕ
+nested_case = json (
+    codes "{'case':1,'features':['R','A','B'],'nodes':[{'key':'0','kind':'goal','text':['All'],'when':5},"
+    ++ codes "{'branches':[7,9],'key':'0/1','kind':'strategy','text':['Over ',0],'when':5},{'key':'0/1/0:2',"
+    ++ codes "'kind':'goal','text':['Handle x'],'when':7},{'branches':[7],'key':'0/1/0:2/3','kind':'strategy',"
+    ++ codes "'text':['Over ',0],'when':7},{'key':'0/1/0:2/3/0:4','kind':'goal','text':['x to x'],'when':7},"
+    ++ codes "{'key':'0/1/1:2','kind':'goal','text':['Handle y'],'when':9},{'branches':[9],'key':'0/1/1:2/3',"
+    ++ codes "'kind':'strategy','text':['Over ',0],'when':9},{'key':'0/1/1:2/3/1:4','kind':'goal','text':['y to y'],"
+    ++ codes "'when':9}],'relations':[{'from':0,'kind':'supported','to':1,'when':5},{'from':1,'kind':'supported',"
+    ++ codes "'to':2,'when':7},{'from':2,'kind':'supported','to':3,'when':7},{'from':3,'kind':'supported','to':4,"
+    ++ codes "'when':7},{'from':1,'kind':'supported','to':5,'when':9},{'from':5,'kind':'supported','to':6,'when':9},"
+    ++ codes "{'from':6,'kind':'supported','to':7,'when':9}],'systems':[],'table':[[2,0,1],[2,1,0],[1,2,3],[0,0,4],[1,"
+    ++ codes "0,3],[0,0,6],[1,2,0],[0,0,8]],'title':'Row','valid':5}" ++ codes "\n")
 
 report_of_nested_text : List ℕ
 report_of_nested_text =
@@ -44,9 +50,8 @@ report_of_nested : reported 3 nested_case ≡ report_of_nested_text
 unfolding meaning_on_literals reported report_text nested_case report_of_nested_text
 report_of_nested = refl
 
-no_world_case : List ℕ
-no_world_case =
-    codes "{\"case\":1,\"features\":[\"R\",\"A\",\"B\"],\"nodes\":[{\"key\":\"0\",\"kind\":\"goal\",\"text\":[\"All\"],\"when\":2},{\"branches\":[2],\"key\":\"0/1\",\"kind\":\"strategy\",\"text\":[\"Over \",0],\"when\":2},{\"key\":\"0/1/0:2\",\"kind\":\"goal\",\"text\":[\"c is safe\"],\"when\":2},{\"finding\":{\"check\":\"never\",\"expr\":\"bad\",\"refuted\":4,\"system\":0,\"targets\":[[3,4]]},\"key\":\"0/1/0:2/3\",\"kind\":\"solution\",\"text\":[\"Check\"],\"when\":2}],\"relations\":[{\"from\":0,\"kind\":\"supported\",\"to\":1,\"when\":2},{\"from\":1,\"kind\":\"supported\",\"to\":2,\"when\":2},{\"from\":2,\"kind\":\"supported\",\"to\":3,\"when\":2}],\"systems\":[{\"element\":\"c\",\"parents\":[2,2,4],\"reached\":[2,2,2,4],\"states\":[\"s0\",\"s1\",\"s2\",\"bad\"],\"transitions\":[[0,1,\"go\"],[1,2,\"go\"],[1,3,\"slip\"]]}],\"table\":[[0,0,1],[1,1,0],[0,0,3]],\"title\":\"Row\",\"valid\":0}\n"
+unfoldable no_world_case : List ℕ
+no_world_case = edited system_case (codes "'valid':2") (codes "'valid':0")
 
 report_of_no_world_text : List ℕ
 report_of_no_world_text =
@@ -64,9 +69,8 @@ told_rules features case = elim (read_case case) as (λ _. List ℕ) [
   | Is k ↦ let vs = violations_among (worlds features) k in status_line (RulesBroken (length vs)) ++ violation_lines k.features vs
 ]
 
-two_roots_case : List ℕ
-two_roots_case =
-    codes "{\"case\":1,\"features\":[\"R\"],\"nodes\":[{\"key\":\"0\",\"kind\":\"goal\",\"text\":[\"Safe\"],\"when\":2},{\"key\":\"1\",\"kind\":\"goal\",\"text\":[\"Lost\"],\"when\":2}],\"relations\":[],\"systems\":[],\"table\":[[0,0,1]],\"title\":\"T\",\"valid\":2}\n"
+unfoldable two_roots_case : List ℕ
+two_roots_case = edited smallest_case (codes "'Safe'") (codes "'Safe'],'when':2},{'key':'1','kind':'goal','text':['Lost'")
 
 two_roots_text : List ℕ
 two_roots_text =
@@ -76,21 +80,18 @@ two_roots : told_rules 1 two_roots_case ≡ two_roots_text
 unfolding meaning_on_literals told_rules broken status_line two_roots_case two_roots_text
 two_roots = refl
 
-kept_in_system_case : List ℕ
-kept_in_system_case =
-    codes "{\"case\":1,\"features\":[\"R\",\"A\",\"B\"],\"nodes\":[{\"key\":\"0\",\"kind\":\"goal\",\"text\":[\"All\"],\"when\":2},{\"branches\":[2],\"key\":\"0/1\",\"kind\":\"strategy\",\"text\":[\"Over \",0],\"when\":2},{\"key\":\"0/1/0:2\",\"kind\":\"goal\",\"text\":[\"c is safe\"],\"when\":2},{\"finding\":{\"check\":\"never\",\"expr\":\"bad\",\"refuted\":4,\"system\":0,\"targets\":[[3,4]]},\"key\":\"0/1/0:2/3\",\"kind\":\"solution\",\"text\":[\"Check\"],\"when\":2}],\"relations\":[{\"from\":0,\"kind\":\"supported\",\"to\":1,\"when\":2},{\"from\":1,\"kind\":\"supported\",\"to\":2,\"when\":2},{\"from\":2,\"kind\":\"supported\",\"to\":3,\"when\":2}],\"systems\":[{\"element\":\"c\",\"parents\":[2,2,4],\"reached\":[2,2,2,4],\"states\":[\"s0\",\"s1\",\"s2\",\"bad\"],\"transitions\":[[0,1,\"go\"],[1,2,\"go\"],[1,3,\"slip\"]]}],\"table\":[[0,0,1],[1,1,0],[0,0,3]],\"title\":\"Row\",\"valid\":2}\n"
-
 kept_in_system_text : List ℕ
 kept_in_system_text =
     codes "plcase: 0 rules broken\n"
 
-kept_in_system : told_rules 3 kept_in_system_case ≡ kept_in_system_text
-unfolding meaning_on_literals told_rules broken status_line kept_in_system_case kept_in_system_text
+kept_in_system : told_rules 3 system_case ≡ kept_in_system_text
+unfolding meaning_on_literals told_rules broken status_line system_case kept_in_system_text
 kept_in_system = refl
 
-many_broken_case : List ℕ
-many_broken_case =
-    codes "{\"case\":1,\"features\":[\"R\",\"A\",\"B\"],\"nodes\":[{\"key\":\"0\",\"kind\":\"goal\",\"text\":[\"All\"],\"when\":2},{\"branches\":[2],\"key\":\"0\",\"kind\":\"strategy\",\"text\":[\"Over \",0],\"when\":2},{\"key\":\"0/1/0:2\",\"kind\":\"goal\",\"text\":[\"c is safe\"],\"when\":2},{\"finding\":{\"check\":\"never\",\"expr\":\"bad\",\"refuted\":4,\"system\":0,\"targets\":[[3,4]]},\"key\":\"0/1/0:2/3\",\"kind\":\"solution\",\"text\":[\"Check\"],\"when\":2}],\"relations\":[{\"from\":0,\"kind\":\"supported\",\"to\":1,\"when\":2},{\"from\":1,\"kind\":\"supported\",\"to\":2,\"when\":2},{\"from\":2,\"kind\":\"supported\",\"to\":0,\"when\":2},{\"from\":3,\"kind\":\"context\",\"to\":2,\"when\":4},{\"from\":1,\"kind\":\"supported\",\"to\":3,\"when\":4}],\"systems\":[{\"element\":\"c\",\"parents\":[2,2,4],\"reached\":[2,2,2,4],\"states\":[\"s0\",\"s1\",\"s2\",\"bad\"],\"transitions\":[[0,1,\"go\"],[1,2,\"go\"],[1,3,\"slip\"]]}],\"table\":[[0,0,1],[1,1,0],[0,0,3]],\"title\":\"Row\",\"valid\":2}\n"
+unfoldable many_broken_case : List ℕ
+many_broken_case = edited (edited (edited system_case (codes "'key':'0/1'") (codes "'key':'0'")) (codes "2,'kind':'supported','to':") (
+    codes "2,'kind':'supported','to':0,'when':2},{'from':3,'kind':'context','to':2,'when':4},{'from':1,"
+    ++ codes "'kind':'supported','to':")) (codes "3,'when':2") (codes "3,'when':4")
 
 many_broken_text : List ℕ
 many_broken_text =
@@ -102,17 +103,69 @@ many_broken = refl
 
 -- ---- the generator
 
-generated : List ℕ
-generated =
-    codes "{\"bundle\":1,\"line\":{\"features\":[{\"name\":\"R\"},{\"name\":\"F0\",\"parent\":\"R\"},{\"name\":\"F1\",\"parent\":\"R\"},{\"name\":\"F2\",\"parent\":\"R\"}]},\"model\":{\"elements\":[{\"name\":\"H0\",\"type\":\"Hazard\",\"when\":\"F0\"},{\"name\":\"H1\",\"type\":\"Hazard\",\"when\":\"F1\"},{\"name\":\"H2\",\"type\":\"Hazard\",\"when\":\"F2\"},{\"name\":\"C0\",\"type\":\"Component\",\"when\":\"F0\"},{\"name\":\"C1\",\"type\":\"Component\",\"when\":\"F1\"},{\"name\":\"C2\",\"type\":\"Component\",\"when\":\"F2\"}],\"kinds\":[{\"from\":\"Hazard\",\"name\":\"handles\",\"to\":\"Component\"}],\"labels\":[\"bad\"],\"links\":[{\"from\":\"H0\",\"kind\":\"handles\",\"to\":\"C0\"},{\"from\":\"H0\",\"kind\":\"handles\",\"to\":\"C1\"},{\"from\":\"H0\",\"kind\":\"handles\",\"to\":\"C2\"},{\"from\":\"H1\",\"kind\":\"handles\",\"to\":\"C1\"},{\"from\":\"H1\",\"kind\":\"handles\",\"to\":\"C2\"},{\"from\":\"H1\",\"kind\":\"handles\",\"to\":\"C0\"},{\"from\":\"H2\",\"kind\":\"handles\",\"to\":\"C2\"},{\"from\":\"H2\",\"kind\":\"handles\",\"to\":\"C0\"},{\"from\":\"H2\",\"kind\":\"handles\",\"to\":\"C1\"}],\"systems\":[{\"element\":\"C0\",\"states\":[{\"initial\":true,\"name\":\"Idle\"},{\"name\":\"Busy\"},{\"labels\":[\"bad\"],\"name\":\"Bad\"}],\"transitions\":[{\"action\":\"go\",\"from\":\"Idle\",\"to\":\"Busy\"},{\"action\":\"slip\",\"from\":\"Busy\",\"to\":\"Bad\",\"when\":\"F1\"},{\"action\":\"done\",\"from\":\"Busy\",\"to\":\"Idle\"}]},{\"element\":\"C1\",\"states\":[{\"initial\":true,\"name\":\"Idle\"},{\"name\":\"Busy\"},{\"labels\":[\"bad\"],\"name\":\"Bad\"}],\"transitions\":[{\"action\":\"go\",\"from\":\"Idle\",\"to\":\"Busy\"},{\"action\":\"slip\",\"from\":\"Busy\",\"to\":\"Bad\",\"when\":\"!F1\"},{\"action\":\"done\",\"from\":\"Busy\",\"to\":\"Idle\"}]},{\"element\":\"C2\",\"states\":[{\"initial\":true,\"name\":\"Idle\"},{\"name\":\"Busy\"},{\"labels\":[\"bad\"],\"name\":\"Bad\"}],\"transitions\":[{\"action\":\"go\",\"from\":\"Idle\",\"to\":\"Busy\"},{\"action\":\"slip\",\"from\":\"Busy\",\"to\":\"Bad\",\"when\":\"F0\"},{\"action\":\"done\",\"from\":\"Busy\",\"to\":\"Idle\"}]}],\"types\":[{\"name\":\"Hazard\"},{\"name\":\"Component\",\"system\":true}]},\"templates\":[{\"name\":\"Top\",\"nodes\":[{\"id\":\"g\",\"kind\":\"goal\",\"text\":\"All hazards are handled\"},{\"each\":\"h: Hazard\",\"id\":\"s\",\"kind\":\"strategy\",\"text\":\"Over {#} hazards\",\"under\":\"g\"},{\"id\":\"c\",\"kind\":\"goal\",\"text\":\"Hazard {h.name}\",\"under\":\"s\"},{\"each\":\"d: Component with h [handles] d\",\"id\":\"t\",\"kind\":\"strategy\",\"text\":\"Over {#} components\",\"under\":\"c\"},{\"id\":\"e\",\"kind\":\"goal\",\"text\":\"Component {d.name}\",\"under\":\"t\"},{\"check\":{\"never\":\"bad\",\"of\":\"d\"},\"id\":\"f\",\"kind\":\"solution\",\"text\":\"Check of {d.name}\",\"under\":\"e\"}]}],\"title\":\"Workload 3 3\"}\n"
+unfoldable generated : List ℕ
+generated = json (
+    codes "{'bundle':1,'line':{'features':[{'name':'R'},{'name':'F0','parent':'R'},{'name':'F1','parent':'R'},"
+    ++ codes "{'name':'F2','parent':'R'}]},'model':{'elements':[{'name':'H0','type':'Hazard','when':'F0'},"
+    ++ codes "{'name':'H1','type':'Hazard','when':'F1'},{'name':'H2','type':'Hazard','when':'F2'},{'name':'C0',"
+    ++ codes "'type':'Component','when':'F0'},{'name':'C1','type':'Component','when':'F1'},{'name':'C2',"
+    ++ codes "'type':'Component','when':'F2'}],'kinds':[{'from':'Hazard','name':'handles','to':'Component'}],"
+    ++ codes "'labels':['bad'],'links':[{'from':'H0','kind':'handles','to':'C0'},{'from':'H0','kind':'handles',"
+    ++ codes "'to':'C1'},{'from':'H0','kind':'handles','to':'C2'},{'from':'H1','kind':'handles','to':'C1'},"
+    ++ codes "{'from':'H1','kind':'handles','to':'C2'},{'from':'H1','kind':'handles','to':'C0'},{'from':'H2',"
+    ++ codes "'kind':'handles','to':'C2'},{'from':'H2','kind':'handles','to':'C0'},{'from':'H2','kind':'handles',"
+    ++ codes "'to':'C1'}],'systems':[{'element':'C0','states':[{'initial':true,'name':'Idle'},{'name':'Busy'},"
+    ++ codes "{'labels':['bad'],'name':'Bad'}],'transitions':[{'action':'go','from':'Idle','to':'Busy'},"
+    ++ codes "{'action':'slip','from':'Busy','to':'Bad','when':'F1'},{'action':'done','from':'Busy','to':'Idle'}]},"
+    ++ codes "{'element':'C1','states':[{'initial':true,'name':'Idle'},{'name':'Busy'},{'labels':['bad'],"
+    ++ codes "'name':'Bad'}],'transitions':[{'action':'go','from':'Idle','to':'Busy'},{'action':'slip','from':'Busy',"
+    ++ codes "'to':'Bad','when':'!F1'},{'action':'done','from':'Busy','to':'Idle'}]},{'element':'C2',"
+    ++ codes "'states':[{'initial':true,'name':'Idle'},{'name':'Busy'},{'labels':['bad'],'name':'Bad'}],"
+    ++ codes "'transitions':[{'action':'go','from':'Idle','to':'Busy'},{'action':'slip','from':'Busy','to':'Bad',"
+    ++ codes "'when':'F0'},{'action':'done','from':'Busy','to':'Idle'}]}],'types':[{'name':'Hazard'},"
+    ++ codes "{'name':'Component','system':true}]},'templates':[{'name':'Top','nodes':[{'id':'g','kind':'goal',"
+    ++ codes "'text':'All hazards are handled'},{'each':'h: Hazard','id':'s','kind':'strategy',"
+    ++ codes "'text':'Over {#} hazards','under':'g'},{'id':'c','kind':'goal','text':'Hazard {h.name}','under':'s'},"
+    ++ codes "{'each':'d: Component with h [handles] d','id':'t','kind':'strategy','text':'Over {#} components',"
+    ++ codes "'under':'c'},{'id':'e','kind':'goal','text':'Component {d.name}','under':'t'},{'check':{'never':'bad',"
+    ++ codes "'of':'d'},'id':'f','kind':'solution','text':'Check of {d.name}','under':'e'}]}],'title':'Workload 3 3'}" ++ codes "\n")
 
 generates : bundle_of_seed 3 3 ≡ generated
 unfolding meaning_on_literals bundle_of_seed generated
 generates = refl
 
-generated_of_much : List ℕ
-generated_of_much =
-    codes "{\"bundle\":1,\"line\":{\"features\":[{\"name\":\"R\"},{\"name\":\"F0\",\"parent\":\"R\"},{\"name\":\"F1\",\"parent\":\"R\"},{\"name\":\"F2\",\"parent\":\"R\"},{\"name\":\"F3\",\"parent\":\"R\"}]},\"model\":{\"elements\":[{\"name\":\"H0\",\"type\":\"Hazard\",\"when\":\"F0\"},{\"name\":\"H1\",\"type\":\"Hazard\",\"when\":\"F1\"},{\"name\":\"H2\",\"type\":\"Hazard\",\"when\":\"F2\"},{\"name\":\"H3\",\"type\":\"Hazard\",\"when\":\"F3\"},{\"name\":\"C0\",\"type\":\"Component\",\"when\":\"F0\"},{\"name\":\"C1\",\"type\":\"Component\",\"when\":\"F1\"},{\"name\":\"C2\",\"type\":\"Component\",\"when\":\"F2\"},{\"name\":\"C3\",\"type\":\"Component\",\"when\":\"F3\"}],\"kinds\":[{\"from\":\"Hazard\",\"name\":\"handles\",\"to\":\"Component\"}],\"labels\":[\"bad\"],\"links\":[{\"from\":\"H0\",\"kind\":\"handles\",\"to\":\"C0\"},{\"from\":\"H0\",\"kind\":\"handles\",\"to\":\"C1\"},{\"from\":\"H0\",\"kind\":\"handles\",\"to\":\"C2\"},{\"from\":\"H1\",\"kind\":\"handles\",\"to\":\"C3\"},{\"from\":\"H1\",\"kind\":\"handles\",\"to\":\"C0\"},{\"from\":\"H1\",\"kind\":\"handles\",\"to\":\"C1\"},{\"from\":\"H2\",\"kind\":\"handles\",\"to\":\"C2\"},{\"from\":\"H2\",\"kind\":\"handles\",\"to\":\"C3\"},{\"from\":\"H2\",\"kind\":\"handles\",\"to\":\"C0\"},{\"from\":\"H3\",\"kind\":\"handles\",\"to\":\"C1\"},{\"from\":\"H3\",\"kind\":\"handles\",\"to\":\"C2\"},{\"from\":\"H3\",\"kind\":\"handles\",\"to\":\"C3\"}],\"systems\":[{\"element\":\"C0\",\"states\":[{\"initial\":true,\"name\":\"Idle\"},{\"name\":\"Busy\"},{\"labels\":[\"bad\"],\"name\":\"Bad\"}],\"transitions\":[{\"action\":\"go\",\"from\":\"Idle\",\"to\":\"Busy\"},{\"action\":\"slip\",\"from\":\"Busy\",\"to\":\"Bad\",\"when\":\"F1\"},{\"action\":\"done\",\"from\":\"Busy\",\"to\":\"Idle\"}]},{\"element\":\"C1\",\"states\":[{\"initial\":true,\"name\":\"Idle\"},{\"name\":\"Busy\"},{\"labels\":[\"bad\"],\"name\":\"Bad\"}],\"transitions\":[{\"action\":\"go\",\"from\":\"Idle\",\"to\":\"Busy\"},{\"action\":\"slip\",\"from\":\"Busy\",\"to\":\"Bad\",\"when\":\"!F1\"},{\"action\":\"done\",\"from\":\"Busy\",\"to\":\"Idle\"}]},{\"element\":\"C2\",\"states\":[{\"initial\":true,\"name\":\"Idle\"},{\"name\":\"Busy\"},{\"labels\":[\"bad\"],\"name\":\"Bad\"}],\"transitions\":[{\"action\":\"go\",\"from\":\"Idle\",\"to\":\"Busy\"},{\"action\":\"slip\",\"from\":\"Busy\",\"to\":\"Bad\",\"when\":\"F3\"},{\"action\":\"done\",\"from\":\"Busy\",\"to\":\"Idle\"}]},{\"element\":\"C3\",\"states\":[{\"initial\":true,\"name\":\"Idle\"},{\"name\":\"Busy\"},{\"labels\":[\"bad\"],\"name\":\"Bad\"}],\"transitions\":[{\"action\":\"go\",\"from\":\"Idle\",\"to\":\"Busy\"},{\"action\":\"slip\",\"from\":\"Busy\",\"to\":\"Bad\",\"when\":\"!F3\"},{\"action\":\"done\",\"from\":\"Busy\",\"to\":\"Idle\"}]}],\"types\":[{\"name\":\"Hazard\"},{\"name\":\"Component\",\"system\":true}]},\"templates\":[{\"name\":\"Top\",\"nodes\":[{\"id\":\"g\",\"kind\":\"goal\",\"text\":\"All hazards are handled\"},{\"each\":\"h: Hazard\",\"id\":\"s\",\"kind\":\"strategy\",\"text\":\"Over {#} hazards\",\"under\":\"g\"},{\"id\":\"c\",\"kind\":\"goal\",\"text\":\"Hazard {h.name}\",\"under\":\"s\"},{\"each\":\"d: Component with h [handles] d\",\"id\":\"t\",\"kind\":\"strategy\",\"text\":\"Over {#} components\",\"under\":\"c\"},{\"id\":\"e\",\"kind\":\"goal\",\"text\":\"Component {d.name}\",\"under\":\"t\"},{\"check\":{\"never\":\"bad\",\"of\":\"d\"},\"id\":\"f\",\"kind\":\"solution\",\"text\":\"Check of {d.name}\",\"under\":\"e\"}]}],\"title\":\"Workload 4294967295 4\"}\n"
+unfoldable generated_of_much : List ℕ
+generated_of_much = json (
+    codes "{'bundle':1,'line':{'features':[{'name':'R'},{'name':'F0','parent':'R'},{'name':'F1','parent':'R'},"
+    ++ codes "{'name':'F2','parent':'R'},{'name':'F3','parent':'R'}]},'model':{'elements':[{'name':'H0',"
+    ++ codes "'type':'Hazard','when':'F0'},{'name':'H1','type':'Hazard','when':'F1'},{'name':'H2','type':'Hazard',"
+    ++ codes "'when':'F2'},{'name':'H3','type':'Hazard','when':'F3'},{'name':'C0','type':'Component','when':'F0'},"
+    ++ codes "{'name':'C1','type':'Component','when':'F1'},{'name':'C2','type':'Component','when':'F2'},{'name':'C3',"
+    ++ codes "'type':'Component','when':'F3'}],'kinds':[{'from':'Hazard','name':'handles','to':'Component'}],"
+    ++ codes "'labels':['bad'],'links':[{'from':'H0','kind':'handles','to':'C0'},{'from':'H0','kind':'handles',"
+    ++ codes "'to':'C1'},{'from':'H0','kind':'handles','to':'C2'},{'from':'H1','kind':'handles','to':'C3'},"
+    ++ codes "{'from':'H1','kind':'handles','to':'C0'},{'from':'H1','kind':'handles','to':'C1'},{'from':'H2',"
+    ++ codes "'kind':'handles','to':'C2'},{'from':'H2','kind':'handles','to':'C3'},{'from':'H2','kind':'handles',"
+    ++ codes "'to':'C0'},{'from':'H3','kind':'handles','to':'C1'},{'from':'H3','kind':'handles','to':'C2'},"
+    ++ codes "{'from':'H3','kind':'handles','to':'C3'}],'systems':[{'element':'C0','states':[{'initial':true,"
+    ++ codes "'name':'Idle'},{'name':'Busy'},{'labels':['bad'],'name':'Bad'}],'transitions':[{'action':'go',"
+    ++ codes "'from':'Idle','to':'Busy'},{'action':'slip','from':'Busy','to':'Bad','when':'F1'},{'action':'done',"
+    ++ codes "'from':'Busy','to':'Idle'}]},{'element':'C1','states':[{'initial':true,'name':'Idle'},{'name':'Busy'},"
+    ++ codes "{'labels':['bad'],'name':'Bad'}],'transitions':[{'action':'go','from':'Idle','to':'Busy'},"
+    ++ codes "{'action':'slip','from':'Busy','to':'Bad','when':'!F1'},{'action':'done','from':'Busy','to':'Idle'}]},"
+    ++ codes "{'element':'C2','states':[{'initial':true,'name':'Idle'},{'name':'Busy'},{'labels':['bad'],"
+    ++ codes "'name':'Bad'}],'transitions':[{'action':'go','from':'Idle','to':'Busy'},{'action':'slip','from':'Busy',"
+    ++ codes "'to':'Bad','when':'F3'},{'action':'done','from':'Busy','to':'Idle'}]},{'element':'C3',"
+    ++ codes "'states':[{'initial':true,'name':'Idle'},{'name':'Busy'},{'labels':['bad'],'name':'Bad'}],"
+    ++ codes "'transitions':[{'action':'go','from':'Idle','to':'Busy'},{'action':'slip','from':'Busy','to':'Bad',"
+    ++ codes "'when':'!F3'},{'action':'done','from':'Busy','to':'Idle'}]}],'types':[{'name':'Hazard'},"
+    ++ codes "{'name':'Component','system':true}]},'templates':[{'name':'Top','nodes':[{'id':'g','kind':'goal',"
+    ++ codes "'text':'All hazards are handled'},{'each':'h: Hazard','id':'s','kind':'strategy',"
+    ++ codes "'text':'Over {#} hazards','under':'g'},{'id':'c','kind':'goal','text':'Hazard {h.name}','under':'s'},"
+    ++ codes "{'each':'d: Component with h [handles] d','id':'t','kind':'strategy','text':'Over {#} components',"
+    ++ codes "'under':'c'},{'id':'e','kind':'goal','text':'Component {d.name}','under':'t'},{'check':{'never':'bad',"
+    ++ codes "'of':'d'},'id':'f','kind':'solution','text':'Check of {d.name}','under':'e'}]}],"
+    ++ codes "'title':'Workload 4294967295 4'}" ++ codes "\n")
 
 generates_of_much : bundle_of_seed 4294967295 4 ≡ generated_of_much
 unfolding meaning_on_literals bundle_of_seed generated_of_much

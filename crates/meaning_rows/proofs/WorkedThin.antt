@@ -1,5 +1,5 @@
 -- The thin bundles and cases of two worked examples, computed by the check from the bytes of the bundle to the bytes of the case.
-use Rattle.std.specs.Prelude.{◌≡◌, ℕ, ◌<◌, List, [], ◌∷◌, Some, None, refl, codes, option_map}
+use Rattle.std.specs.Prelude.{◌++◌, ◌≡◌, ℕ, ◌<◌, List, [], ◌∷◌, Some, None, refl, codes, option_map}
 use Rattle.std.proofs.Common.{arith, subst}
 use Rattle.meaning.specs.CaseFiles.{Row, words, count}
 use Rattle.meaning.specs.CaseReading.{read_case, Broken, Is}
@@ -14,7 +14,7 @@ use Rattle.meaning.proofs.CutTrees.{Each}
 use Rattle.meaning.proofs.ThinTidy.{each_member}
 use Rattle.meaning.proofs.ThinWhole.{thin_is_tidy}
 use Rattle.meaning.proofs.ThinBuild.{thin_is_build}
-use Rattle.meaning_rows.proofs.WorkedCases.{meaning_on_literals, smallest_bundle, smallest_case, one_enumeration_bundle, one_enumeration_case, system_case}
+use Rattle.meaning_rows.proofs.Samples.{json, smallest_bundle, smallest_case, one_enumeration_bundle, one_enumeration_case, system_case, meaning_on_literals}
 
 smallest : ThinBundle
 smallest = record {
@@ -87,8 +87,15 @@ one_enumeration_is_build =
     (thin_is_build one_enumeration one_enumeration_is_within_limits one_enumeration_reads)
 
 -- features that are shared or stand for the root, an element without one, and one of another type, whose feature gets no row
-shared_features_bundle : List ℕ
-shared_features_bundle = codes "{\"bundle\":1,\"title\":\"Row\",\"line\":{\"features\":[{\"name\":\"R\"},{\"name\":\"A\",\"parent\":\"R\"},{\"name\":\"B\",\"parent\":\"R\",\"kind\":\"optional\"},{\"name\":\"C\",\"parent\":\"R\"}]},\"model\":{\"types\":[{\"name\":\"N\"},{\"name\":\"M\"}],\"elements\":[{\"name\":\"x\",\"type\":\"N\",\"when\":\"B\"},{\"name\":\"q\",\"type\":\"M\",\"when\":\"C\"},{\"name\":\"y\",\"type\":\"N\"},{\"name\":\"z\",\"type\":\"N\",\"when\":\"A\"},{\"name\":\"u\",\"type\":\"N\",\"when\":\"B\"},{\"name\":\"v\",\"type\":\"N\",\"when\":\"R\"}]},\"templates\":[{\"name\":\"Top\",\"nodes\":[{\"id\":\"g\",\"kind\":\"goal\",\"text\":\"All\"},{\"id\":\"s\",\"kind\":\"strategy\",\"under\":\"g\",\"text\":\"{#} of {#}\",\"each\":\"n: N\"},{\"id\":\"c\",\"kind\":\"goal\",\"under\":\"s\",\"text\":\"{n.name}\"}]}]}"
+unfoldable shared_features_bundle : List ℕ
+shared_features_bundle = json (
+    codes "{'bundle':1,'title':'Row','line':{'features':[{'name':'R'},{'name':'A','parent':'R'},{'name':'B',"
+    ++ codes "'parent':'R','kind':'optional'},{'name':'C','parent':'R'}]},'model':{'types':[{'name':'N'},"
+    ++ codes "{'name':'M'}],'elements':[{'name':'x','type':'N','when':'B'},{'name':'q','type':'M','when':'C'},"
+    ++ codes "{'name':'y','type':'N'},{'name':'z','type':'N','when':'A'},{'name':'u','type':'N','when':'B'},"
+    ++ codes "{'name':'v','type':'N','when':'R'}]},'templates':[{'name':'Top','nodes':[{'id':'g','kind':'goal',"
+    ++ codes "'text':'All'},{'id':'s','kind':'strategy','under':'g','text':'{#} of {#}','each':'n: N'},{'id':'c',"
+    ++ codes "'kind':'goal','under':'s','text':'{n.name}'}]}]}")
 
 shared_features : ThinBundle
 shared_features = record {
@@ -114,8 +121,17 @@ shared_features_is_thin : option_map bundle_of (document_of Json shared_features
 unfolding meaning_on_literals shared_features_bundle shared_features
 shared_features_is_thin = refl
 
-shared_features_case : List ℕ
-shared_features_case = codes "{\"case\":1,\"features\":[\"R\",\"A\",\"B\",\"C\"],\"nodes\":[{\"key\":\"0\",\"kind\":\"goal\",\"text\":[\"All\"],\"when\":2},{\"branches\":[4,2,6,4,2],\"key\":\"0/1\",\"kind\":\"strategy\",\"text\":[0,\" of \",0],\"when\":2},{\"key\":\"0/1/0:2\",\"kind\":\"goal\",\"text\":[\"x\"],\"when\":4},{\"key\":\"0/1/2:2\",\"kind\":\"goal\",\"text\":[\"y\"],\"when\":2},{\"key\":\"0/1/3:2\",\"kind\":\"goal\",\"text\":[\"z\"],\"when\":6},{\"key\":\"0/1/4:2\",\"kind\":\"goal\",\"text\":[\"u\"],\"when\":4},{\"key\":\"0/1/5:2\",\"kind\":\"goal\",\"text\":[\"v\"],\"when\":2}],\"relations\":[{\"from\":0,\"kind\":\"supported\",\"to\":1,\"when\":2},{\"from\":1,\"kind\":\"supported\",\"to\":2,\"when\":4},{\"from\":1,\"kind\":\"supported\",\"to\":3,\"when\":2},{\"from\":1,\"kind\":\"supported\",\"to\":4,\"when\":6},{\"from\":1,\"kind\":\"supported\",\"to\":5,\"when\":4},{\"from\":1,\"kind\":\"supported\",\"to\":6,\"when\":2}],\"systems\":[],\"table\":[[0,0,1],[2,0,1],[0,0,3],[1,0,1],[0,0,5]],\"title\":\"Row\",\"valid\":2}\n"
+unfoldable shared_features_case : List ℕ
+shared_features_case = json (
+    codes "{'case':1,'features':['R','A','B','C'],'nodes':[{'key':'0','kind':'goal','text':['All'],'when':2},"
+    ++ codes "{'branches':[4,2,6,4,2],'key':'0/1','kind':'strategy','text':[0,' of ',0],'when':2},{'key':'0/1/0:2',"
+    ++ codes "'kind':'goal','text':['x'],'when':4},{'key':'0/1/2:2','kind':'goal','text':['y'],'when':2},"
+    ++ codes "{'key':'0/1/3:2','kind':'goal','text':['z'],'when':6},{'key':'0/1/4:2','kind':'goal','text':['u'],"
+    ++ codes "'when':4},{'key':'0/1/5:2','kind':'goal','text':['v'],'when':2}],'relations':[{'from':0,"
+    ++ codes "'kind':'supported','to':1,'when':2},{'from':1,'kind':'supported','to':2,'when':4},{'from':1,"
+    ++ codes "'kind':'supported','to':3,'when':2},{'from':1,'kind':'supported','to':4,'when':6},{'from':1,"
+    ++ codes "'kind':'supported','to':5,'when':4},{'from':1,'kind':'supported','to':6,'when':2}],'systems':[],"
+    ++ codes "'table':[[0,0,1],[2,0,1],[0,0,3],[1,0,1],[0,0,5]],'title':'Row','valid':2}" ++ codes "\n")
 
 builds_shared_features : case_bytes (thin_case shared_features) ≡ shared_features_case
 unfolding meaning_on_literals case_bytes thin_case shared_features shared_features_case

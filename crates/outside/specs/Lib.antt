@@ -1,0 +1,4 @@
+pub mod Pieces
+pub mod MemFiles
+pub mod MemShelves
+pub mod MemSinks
