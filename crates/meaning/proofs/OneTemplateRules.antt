@@ -151,4 +151,3 @@ module _ (thin passes : List Document → Bool) (some_node : (ns : List Document
       ≡ (needs is_list_value (codes "templates") d && one_passes (templates_in d))
   unfolding template_faults
   templates_are_thin = templates_over (templates_in d) (listed_member (codes "templates") d)
-

@@ -134,7 +134,7 @@ pub record StrategyFacts (types : List (List ℕ)) (g s : Document) : Type 0 whe
 pub strategy_facts : (types : List (List ℕ)) (g s : Document) → strategy_passes types g s ≡ true → StrategyFacts types g s
 strategy_facts types g s e =
     let f = seven_facts (node_has_form s) (is_name (id_in s)) (not (is_among (id_in g ∷ []) (id_in s))) (text_passes (codes "#") s) (is_plain_strategy s) (stands_under g s)
-        (is_among types (type_of_each s)) e in
+    (is_among types (type_of_each s)) e in
     record { named = f.0; new = other_id (bytes_eq (id_in s) (id_in g)) f.1; plain = f.2; under = f.3; of_type = f.4 }
 
 -- ---- the three nodes

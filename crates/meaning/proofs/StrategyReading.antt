@@ -121,9 +121,13 @@ module _ (types : List (List ℕ)) where
       let last = both_true (goal_passes g && strategy_passes types g s) (element_goal_passes g s d) e in
       let first = both_true (goal_passes g) (strategy_passes types g s) last.0 in
       let s_text = within_is_text s (text_facts (codes "#") s (strategy_text_passes types g s first.1)).0 in
-      let d_text = within_is_text d (text_facts (variable_of s ++ codes ".name") d (last_facts g s d last.1).text).0 in
-      (within_is_text g (goal_fits g first.0), (strategy_pieces (segments_of (text_at (codes "text") s)) (segments_are_texts (text_at (codes "text") s) s_text),
-      goal_pieces (segments_of (text_at (codes "text") d)) (segments_are_texts (text_at (codes "text") d) d_text)))
+      let d_text = within_is_text d (text_facts (variable_of s ++ codes ".name") d (last_facts g s d last.1).text).0 in (
+        within_is_text g (goal_fits g first.0),
+        (
+          strategy_pieces (segments_of (text_at (codes "text") s)) (segments_are_texts (text_at (codes "text") s) s_text),
+          goal_pieces (segments_of (text_at (codes "text") d)) (segments_are_texts (text_at (codes "text") d) d_text),
+        ),
+      )
 
   parts_of_template : (ts : List Document) → one_thin_template_passes types ts ≡ true → (is_text (goal_text ts) ≡ true) × PartsAreTexts (enumeration_of_template types ts)
   parts_of_template [] e = absurd (let n : false ≡ true = e in cc)
