@@ -1,21 +1,21 @@
 -- The query of a plain strategy: a name, a colon, a space and a type; its tokens, its meaning and its fault.
-use Rattle.std.proofs.Common.{◌≡◌, refl, sym, ap, ◌∙◌, subst, ℕ, suc, ◌+◌, List, [], ◌∷◌, ◌++◌, map, length, Bool, true, false, not, ◌&&◌, ◌||◌, ◌==◌, Option, Some, None, arith}
-use Rattle.std.specs.Prelude.{codes, bytes_eq, nat_le, is_some, is_none, option_map, option_and_then, unwrap_or, if◌then◌else◌}
+use Rattle.std.proofs.Common.{◌≡◌, refl, sym, ap, ◌∙◌, ℕ, ◌+◌, List, [], ◌∷◌, ◌++◌, map, length, Bool, true, false, not, ◌==◌, Option, Some, None, arith}
+use Rattle.std.specs.Prelude.{codes, is_some, is_none, option_map, option_and_then, if◌then◌else◌}
 use Rattle.std.specs.List.{list_all}
 use Rattle.std.proofs.lemmas.Bool.Decides.{nat_tests}
 use Rattle.std.proofs.lemmas.Grind.{common_steps}
 use Rattle.std.proofs.lemmas.Slice.Eq.{bytes_eq-Decides}
 use Rattle.std.proofs.lemmas.List.{append-nil}
-use Rattle.meaning.specs.Texts.{is_word_byte, begins_with_letter, is_name, is_text}
+use Rattle.meaning.specs.Texts.{is_word_byte, begins_with_letter, is_name}
 use Rattle.meaning.specs.Models.{Model}
 use Rattle.meaning.specs.Queries.{Query}
-use Rattle.meaning.specs.QueryTexts.{Token, word, colon, blank, strange, sign_of, cut_at_quotes, in_first, longer_word, signs_of, alternate, proper, tokens_of, Scope, type_number, read_conditions, query_of_tokens, query_of}
-use Rattle.meaning.specs.QueryFaults.{placed_tokens, placed_signs, word_or_strange, Next, a_query, Progress, is_with, fault_from, token_fault, query_fault}
+use Rattle.meaning.specs.QueryTexts.{word, colon, blank, strange, cut_at_quotes, in_first, longer_word, signs_of, alternate, proper, tokens_of, Scope, type_number, read_conditions, query_of_tokens, query_of}
+use Rattle.meaning.specs.QueryFaults.{placed_tokens, placed_signs, word_or_strange, a_query, Progress, is_with, fault_from, query_fault}
 use Rattle.meaning.specs.ExpressionFaults.{UnknownName}
 use Rattle.meaning.specs.BundlePlaces.{or_else}
 use Rattle.meaning.specs.ThinForm.{cut_at_colon, is_space_and_name}
 use Rattle.meaning.specs.ThinCases.{each_of_type}
-use Rattle.meaning.proofs.EmptyLists.{both_true, all_true}
+use Rattle.meaning.proofs.EmptyLists.{both_true}
 use Rattle.meaning.proofs.NameTexts.{name_begins, name_has_word_bytes}
 
 -- ---- the text

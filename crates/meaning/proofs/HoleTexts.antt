@@ -1,12 +1,10 @@
 -- Texts whose braces all belong to one hole: they have a fault only where there are more than eight holes, and their parts are words and that hole.
-use Rattle.std.proofs.Common.{◌≡◌, refl, sym, ap, ◌∙◌, subst, ℕ, suc, ◌+◌, ◌≤◌, List, [], ◌∷◌, ◌++◌, map, length, Bool, true, false, not, ◌&&◌, ◌||◌, ◌==◌, Option, Some, None, arith}
-use Rattle.std.specs.Prelude.{⊤, codes, bytes_eq, nat_le, is_some, is_none, option_map, option_and_then, unwrap_or, if◌then◌else◌}
+use Rattle.std.proofs.Common.{◌≡◌, refl, sym, ap, ◌∙◌, subst, ℕ, suc, ◌+◌, ◌≤◌, List, [], ◌∷◌, ◌++◌, map, Bool, true, false, Option, Some, None, arith}
+use Rattle.std.specs.Prelude.{⊤, bytes_eq, nat_le, is_none, option_map, unwrap_or, if◌then◌else◌}
 use Rattle.std.proofs.lemmas.Bool.Decides.{nat_tests}
-use Rattle.std.proofs.lemmas.Grind.{common_steps}
 use Rattle.std.proofs.lemmas.Slice.Eq.{bytes_eq-Decides}
 use Rattle.meaning.specs.Models.{Model}
 use Rattle.meaning.specs.QueryTexts.{Scope}
-use Rattle.meaning.specs.Templates.{TextPart}
 use Rattle.meaning.specs.CaseFiles.{CasePart, words, count}
 use Rattle.meaning.specs.TemplateTexts.{Mark, open_brace, close_brace, byte, mark_of, Segment, plain, longer_plain, hole_part, part_of, parts_of}
 use Rattle.meaning.specs.TemplateTexts as texts

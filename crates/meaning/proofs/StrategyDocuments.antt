@@ -1,29 +1,28 @@
 -- The thin bundle that a document with one goal or with a strategy is.
-use Rattle.std.proofs.Common.{◌≡◌, refl, sym, ap, ◌∙◌, subst, ℕ, zero, suc, ◌+◌, ◌<◌, ◌≤◌, List, [], ◌∷◌, ◌++◌, map, length, Bool, true, false, not, ◌&&◌, ◌||◌, Option, Some, None, arith}
+use Rattle.std.proofs.Common.{◌≡◌, refl, sym, ap, ◌∙◌, ℕ, suc, List, [], ◌∷◌, ◌++◌, map, Bool, true, false, not, ◌&&◌, Some, None, arith}
 use Rattle.std.specs.Prelude.{codes, bytes_eq, nat_le, option_map, option_and_then, unwrap_or, if◌then◌else◌}
-use Rattle.std.specs.List.{list_all}
 use Rattle.std.proofs.lemmas.Grind.{common_steps}
 use Rattle.std.proofs.lemmas.Slice.Eq.{bytes_eq-Decides}
 use Rattle.meaning.specs.Texts.{is_name, place_of}
 use Rattle.meaning.specs.Documents.{Document, text_at, list_at}
-use Rattle.meaning.specs.Features.{feature_names, line_of}
+use Rattle.meaning.specs.Features.{line_of}
 use Rattle.meaning.specs.Models.{Model, model_of, number_in, text_if}
-use Rattle.meaning.specs.QueryTexts.{Scope, type_number}
+use Rattle.meaning.specs.QueryTexts.{type_number}
 use Rattle.meaning.specs.Cases.{Goal, Strategy}
-use Rattle.meaning.specs.Templates.{Template, annotates}
-use Rattle.meaning.specs.TemplateTexts.{Placed, mark_of, kind_of, scope_for, placed, place_under, parameter_of, nodes_after, template_of, templates_of}
-use Rattle.meaning.specs.Derivation.{Bundle, bundle_of}
+use Rattle.meaning.specs.Templates.{Template}
+use Rattle.meaning.specs.TemplateTexts.{Placed, mark_of, placed, parameter_of, nodes_after, template_of, templates_of}
+use Rattle.meaning.specs.Derivation.{bundle_of}
 use Rattle.meaning.specs.BundlePlaces.{has, is_list_value, needs, may_have, name_in, is_among, member_within}
 use Rattle.meaning.specs.LineRules.{line_in, feature_names_in}
 use Rattle.meaning.specs.ModelRules.{model_in}
-use Rattle.meaning.specs.TemplateRules.{templates_in, template_has_form, node_has_form, id_in, kind_named, kind_in, is_strategy, KindWord, a_goal, a_strategy, a_solution, a_context, an_assumption, a_justification, a_use, no_kind}
+use Rattle.meaning.specs.TemplateRules.{templates_in, template_has_form, node_has_form, id_in, kind_named, is_strategy, a_goal, a_strategy, a_solution, a_context, an_assumption, a_justification, a_use, no_kind}
 use Rattle.meaning.specs.ThinForm.{none_in, has_only_holes, stands_under, variable_of, is_plain_strategy, is_plain_goal}
 use Rattle.meaning.specs.ThinCases.{bundle, thin_line, thin_node, thin_template, goal_words, strategy_part, goal_part, each_of_type, enumeration_nodes}
-use Rattle.meaning.specs.ThinTests.{bundle_passes, line_passes, model_passes, goal_passes, first_name, other_names, first_text, goal_text, template_name, empty_or_absent}
+use Rattle.meaning.specs.ThinTests.{bundle_passes, line_passes, model_passes, goal_passes, first_name, other_names, first_text, goal_text, template_name}
 use Rattle.meaning.proofs.EmptyLists.{both_true}
 use Rattle.meaning.proofs.NameTexts.{place_among}
 use Rattle.meaning.proofs.ThinLineRules.{named_member}
-use Rattle.meaning.proofs.PlainTypes.{absent, empty_list, plain_type_names}
+use Rattle.meaning.proofs.PlainTypes.{absent, empty_list}
 use Rattle.meaning.proofs.ThinGoalRules.{GoalParts, goal_parts, passing_goal, goal_has_name}
 use Rattle.meaning.proofs.ThinRules.{line_has_names}
 use Rattle.meaning.proofs.ThinDocuments.{goal_word, goal_is, names_of_line, passing_line, passing_model, bundle_with}
@@ -31,7 +30,7 @@ use Rattle.meaning.proofs.EachTexts.{each_query}
 use Rattle.meaning.proofs.HoleTexts.{opened, segments_of, strategy_piece, goal_piece, strategy_text_parts, goal_text_parts}
 use Rattle.meaning.proofs.StrategyTests.{type_of_each, text_passes, strategy_passes, element_goal_passes, nodes_pass, thin_template_passes, one_thin_template_passes, type_names_in, enumeration_in, enumeration_of_template, thin_bundle_passes, thin_bundle}
 use Rattle.meaning.proofs.StrategyRules.{StrategyParts, strategy_parts, told_each, name_part}
-use Rattle.meaning.proofs.StrategyNodes.{StrategyFacts, strategy_facts, ids, placed_goal, placed_strategy, placed_last, strategy_scope, last_scope}
+use Rattle.meaning.proofs.StrategyNodes.{strategy_facts, ids, placed_goal, placed_strategy, placed_last, strategy_scope, last_scope}
 use Rattle.meaning.proofs.StrategyBundleRules.{known_types}
 
 same_text : (s : List ℕ) → bytes_eq s s ≡ true
@@ -114,14 +113,28 @@ module _ (m : Model) (names types : List (List ℕ)) (known : map (λ d. d.name)
   strategy_node : (s : Document) (p : StrategyParts s) (n : ℕ) → type_number m (type_of_each s) ≡ Some n → has_only_holes (codes "#") s ≡ true
       → (placed m names (Some 0) [] s).node ≡ thin_node Strategy (Some 0) (map strategy_part (map strategy_piece (segments_of (text_at (codes "text") s)))) (Some (each_of_type n))
   strategy_node s p n of_type holes =
-      rw (p.guard, p.check, p.developed, strategy_word (text_at (codes "kind") s) p.kind, strategy_text_parts m [] (codes "#") (text_at (codes "text") s) holes refl,
-        told_each s p, each_query (variable_of s) (type_of_each s) p.variable p.of_type m, of_type) refl
+      rw (
+        p.guard,
+        p.check,
+        p.developed,
+        strategy_word (text_at (codes "kind") s) p.kind,
+        strategy_text_parts m [] (codes "#") (text_at (codes "text") s) holes refl,
+        told_each s p,
+        each_query (variable_of s) (type_of_each s) p.variable p.of_type m,
+        of_type,
+      ) refl
 
   last_node : (s d : Document) (x : List ℕ) (n : ℕ) (q : GoalParts d) → is_name x ≡ true → has_only_holes (x ++ codes ".name") d ≡ true
       → (placed m names (Some 1) ((x, n) ∷ []) d).node ≡ thin_node Goal (Some 1) (map goal_part (map goal_piece (segments_of (text_at (codes "text") d)))) None
   last_node s d x n q named holes =
-      rw (q.each, q.guard, q.check, q.developed, goal_word (text_at (codes "kind") d) q.kind,
-        goal_text_parts m ((x, n) ∷ []) (x ++ codes ".name") (text_at (codes "text") d) holes (name_part m x n named)) refl
+      rw (
+        q.each,
+        q.guard,
+        q.check,
+        q.developed,
+        goal_word (text_at (codes "kind") d) q.kind,
+        goal_text_parts m ((x, n) ∷ []) (x ++ codes ".name") (text_at (codes "text") d) holes (name_part m x n named),
+      ) refl
 
   three_are : (g s d : Document) → goal_passes g ≡ true → strategy_passes types g s ≡ true → element_goal_passes g s d ≡ true
       → map (λ p. p.node) (nodes_after m names [] (id_in g ∷ id_in s ∷ id_in d ∷ []) [] (g ∷ s ∷ d ∷ []))
@@ -139,21 +152,21 @@ module _ (m : Model) (names types : List (List ℕ)) (known : map (λ d. d.name)
       let number : place.0 ≡ number_in types (type_of_each s) = sym (ap (λ o. unwrap_or o 0) place.1) in
       let first : (placed_goal m names g s d).node ≡ thin_node Goal None (goal_words (text_at (codes "text") g)) None = goal_is m names (ids m names g s d) g eg in
       let above_strategy : option_and_then (λ x. place_of x (ids m names g s d)) (text_if (codes "under") s) ≡ Some 0
-          = ap (option_and_then (λ x. place_of x (ids m names g s d))) (named_member (id_in g) (codes "under") s (goal_has_name g eg) f.under).1
-          ∙ ap (λ b. if b then Some 0 else option_map suc (place_of (id_in g) (id_in s ∷ id_in d ∷ []))) (same_text (id_in g)) in
+      = ap (option_and_then (λ x. place_of x (ids m names g s d))) (named_member (id_in g) (codes "under") s (goal_has_name g eg) f.under).1
+      ∙ ap (λ b. if b then Some 0 else option_map suc (place_of (id_in g) (id_in s ∷ id_in d ∷ []))) (same_text (id_in g)) in
       let above_last : option_and_then (λ x. place_of x (ids m names g s d)) (text_if (codes "under") d) ≡ Some 1
-          = ap (option_and_then (λ x. place_of x (ids m names g s d))) (named_member (id_in s) (codes "under") d f.named l.under).1
-          ∙ ap (λ b. if b then Some 0 else option_map suc (place_of (id_in s) (id_in s ∷ id_in d ∷ []))) f.new
-          ∙ ap (λ b. option_map suc (if b then Some 0 else option_map suc (place_of (id_in s) (id_in d ∷ [])))) (same_text (id_in s)) in
+      = ap (option_and_then (λ x. place_of x (ids m names g s d))) (named_member (id_in s) (codes "under") d f.named l.under).1
+      ∙ ap (λ b. if b then Some 0 else option_map suc (place_of (id_in s) (id_in s ∷ id_in d ∷ []))) f.new
+      ∙ ap (λ b. option_map suc (if b then Some 0 else option_map suc (place_of (id_in s) (id_in d ∷ [])))) (same_text (id_in s)) in
       let second : (placed_strategy m names g s d).node ≡ thin_node Strategy (Some 0) (map strategy_part (map strategy_piece (segments_of (text_at (codes "text") s)))) (Some (each_of_type place.0))
-          = ap (λ x. (placed m names (option_and_then (λ x. place_of x (ids m names g s d)) (text_if (codes "under") s)) x s).node) (strategy_scope m names g s d p.each top)
-          ∙ ap (λ o. (placed m names o [] s).node) above_strategy
-          ∙ strategy_node s q place.0 of_type (text_facts (codes "#") s (strategy_text_passes types g s es)).1 in
+      = ap (λ x. (placed m names (option_and_then (λ x. place_of x (ids m names g s d)) (text_if (codes "under") s)) x s).node) (strategy_scope m names g s d p.each top)
+      ∙ ap (λ o. (placed m names o [] s).node) above_strategy
+      ∙ strategy_node s q place.0 of_type (text_facts (codes "#") s (strategy_text_passes types g s es)).1 in
       let third : (placed_last m names g s d).node ≡ thin_node Goal (Some 1) (map goal_part (map goal_piece (segments_of (text_at (codes "text") d)))) None
-          = ap (λ x. (placed m names (option_and_then (λ x. place_of x (ids m names g s d)) (text_if (codes "under") d)) x d).node)
-          (last_scope m names g s d p.each top q f.named f.new r l.under place.0 of_type)
-          ∙ ap (λ o. (placed m names o ((variable_of s, place.0) ∷ []) d).node) above_last
-          ∙ last_node s d (variable_of s) place.0 r q.variable (text_facts (variable_of s ++ codes ".name") d l.text).1 in
+      = ap (λ x. (placed m names (option_and_then (λ x. place_of x (ids m names g s d)) (text_if (codes "under") d)) x d).node)
+      (last_scope m names g s d p.each top q f.named f.new r l.under place.0 of_type)
+      ∙ ap (λ o. (placed m names o ((variable_of s, place.0) ∷ []) d).node) above_last
+      ∙ last_node s d (variable_of s) place.0 r q.variable (text_facts (variable_of s ++ codes ".name") d l.text).1 in
       ap (λ x. x ∷ (placed_strategy m names g s d).node ∷ (placed_last m names g s d).node ∷ []) first
       ∙ ap (λ x. thin_node Goal None (goal_words (text_at (codes "text") g)) None ∷ x ∷ (placed_last m names g s d).node ∷ []) second
       ∙ ap (λ x. thin_node Goal None (goal_words (text_at (codes "text") g)) None

@@ -1,6 +1,6 @@
 -- Every thin case whose names and texts keep their rules reads back: with one goal, and with a strategy over elements.
 use Rattle.std.proofs.Common.{◌≡◌, refl, sym, ap, ◌∙◌, subst, ℕ, suc, ◌+◌, ◌*◌, ◌<◌, ◌≤◌, ◌^◌, List, [], ◌∷◌, ◌++◌, map, length, Bool, true, false, not, ◌&&◌, ◌==◌, cond, Option, Some, None, arith}
-use Rattle.std.specs.Prelude.{⊤, codes, decimal, nat_lt, nat_le, filter}
+use Rattle.std.specs.Prelude.{⊤, decimal, nat_lt, nat_le, filter}
 use Rattle.std.specs.List.{list_all, enumerate_from}
 use Rattle.std.specs.Str.Parse.{AllDigits}
 use Rattle.std.proofs.lemmas.Bool.Decides.{nat_tests}
@@ -10,14 +10,14 @@ use Rattle.std.proofs.lemmas.Str.Parse.{digit_from_value}
 use Rattle.meaning.specs.Texts.{is_text, numbered}
 use Rattle.meaning.specs.Documents.{Json, document_of, of_json}
 use Rattle.meaning.specs.Models.{is_a}
-use Rattle.meaning.specs.CaseFiles.{CasePart, words, count, CaseNode, CaseRelation, CaseDocument}
+use Rattle.meaning.specs.CaseFiles.{CasePart, words, count, CaseDocument}
 use Rattle.meaning.specs.CaseBytes.{case_data, case_bytes}
-use Rattle.meaning.specs.CaseReading.{bad_names, part_is_text, row_fits, is_id, read_document, read_case, Is}
+use Rattle.meaning.specs.CaseReading.{bad_names, part_is_text, is_id, read_document, read_case, Is}
 use Rattle.meaning.specs.Templates.{joined_parts, in_front}
 use Rattle.meaning.specs.Headline.{IsBuildOf}
 use Rattle.meaning.specs.Answers.{IsBuilt}
 use Rattle.meaning.specs.Stages.{building_thin}
-use Rattle.meaning.specs.ThinCases.{ThinBundle, bundle, ThinElement, Enumeration, NamePart, Literal, ElementName, IsWithinLimits, thin_names, thin_type, condition, element_conditions, condition_id, met_after, thin_table, feature_rows, elements_over, named_part, goal_case_node, strategy_case_node, element_case_node, case_relation, strategy_relations, enumerating_case, case_over, thin_case, thin_case_of}
+use Rattle.meaning.specs.ThinCases.{ThinBundle, bundle, ThinElement, Enumeration, NamePart, Literal, ElementName, IsWithinLimits, thin_names, thin_type, condition, element_conditions, condition_id, met_after, thin_table, feature_rows, elements_over, named_part, goal_case_node, strategy_case_node, element_case_node, strategy_relations, enumerating_case, thin_case, thin_case_of}
 use Rattle.meaning.proofs.EmptyLists.{both_true, all_true}
 use Rattle.meaning.proofs.CutTrees.{Each}
 use Rattle.meaning.proofs.ThinModels.{each_filtered}
@@ -153,21 +153,38 @@ module _ (b : ThinBundle) (x : Enumeration) (good : IsProperThin b)
 
   goal_node : IsReadableNode case (goal_case_node b.goal)
   goal_node = record {
-    finding = refl; key = refl; parts = joined_are_texts (words b.goal ∷ []) (all_true _ _ good.goal refl); presence = id_fits 0;
-    branches = refl; no_solution = refl; branching = refl; arguing = refl;
+    finding = refl;
+    key = refl;
+    parts = joined_are_texts (words b.goal ∷ []) (all_true _ _ good.goal refl);
+    presence = id_fits 0;
+    branches = refl;
+    no_solution = refl;
+    branching = refl;
+    arguing = refl;
   }
 
   strategy_node : IsReadableNode case (strategy_case_node x ids)
   strategy_node = record {
-    finding = refl; key = ap is_text short_strategy_key; parts = joined_are_texts x.strategy strategy_texts; presence = id_fits 0;
-    branches = ids_fit (element_conditions es); no_solution = refl; branching = refl; arguing = refl;
+    finding = refl;
+    key = ap is_text short_strategy_key;
+    parts = joined_are_texts x.strategy strategy_texts;
+    presence = id_fits 0;
+    branches = ids_fit (element_conditions es);
+    no_solution = refl;
+    branching = refl;
+    arguing = refl;
   }
 
   element_node : (e : ℕ × ThinElement) → (e.0 < 2 ^ 64) × (is_text e.1.name ≡ true) → IsReadableNode case (element_case_node x met e)
   element_node e h = record {
-    finding = refl; key = key_is_text e.0 h.0;
+    finding = refl;
+    key = key_is_text e.0 h.0;
     parts = joined_are_texts (map (named_part e.1.name) x.goal) (named_are_texts e.1.name x.goal h.1 goal_texts);
-    presence = id_fits (condition e.1); branches = refl; no_solution = refl; branching = refl; arguing = refl;
+    presence = id_fits (condition e.1);
+    branches = refl;
+    no_solution = refl;
+    branching = refl;
+    arguing = refl;
   }
 
   element_nodes : Each (IsReadableNode case) (map (element_case_node x met) es)
@@ -185,9 +202,10 @@ module _ (b : ThinBundle) (x : Enumeration) (good : IsProperThin b)
   relations_from j [] l e = tt
   relations_from j (p ∷ ps) l e =
       let parts = both_true (is_id case p) (list_all (is_id case) ps) e in
-      let n = many_nodes in
-      (record { source = less 1 (length case.nodes) (omega (arith, n)); target = less j (length case.nodes) (omega (arith, l)); presence = parts.0 },
-      relations_from (j + 1) ps (omega (arith, l)) parts.1)
+      let n = many_nodes in (
+        record { source = less 1 (length case.nodes) (omega (arith, n)); target = less j (length case.nodes) (omega (arith, l)); presence = parts.0 },
+        relations_from (j + 1) ps (omega (arith, l)) parts.1,
+      )
 
   many_relations : (j : ℕ) (ps : List ℕ) → length (strategy_relations j ps) ≡ length ps
   many_relations j [] = refl
@@ -223,8 +241,10 @@ module _ (b : ThinBundle) (x : Enumeration) (good : IsProperThin b)
         few_rows = few_table;
         valid = id_fits 0;
         nodes = (goal_node, (strategy_node, element_nodes));
-        relations = (record { source = less 0 (length case.nodes) (omega (arith, n)); target = less 1 (length case.nodes) (omega (arith, n)); presence = id_fits 0 },
-            relations_from 2 ids (omega (arith, n, i)) (ids_fit (element_conditions es)));
+        relations = (
+          record { source = less 0 (length case.nodes) (omega (arith, n)); target = less 1 (length case.nodes) (omega (arith, n)); presence = id_fits 0 },
+          relations_from 2 ids (omega (arith, n, i)) (ids_fit (element_conditions es)),
+        );
         rows = thin_rows_fit (length (thin_names b)) met (less 0 (length (thin_names b)) (omega arith)) fresh;
       }
 

@@ -1,5 +1,5 @@
 -- The table of a thin case is one that a case document may have: rows that fit, of features that are met once each.
-use Rattle.std.proofs.Common.{◌≡◌, refl, sym, ap, ◌∙◌, subst, ℕ, zero, suc, ◌+◌, ◌*◌, ◌<◌, ◌≤◌, List, [], ◌∷◌, ◌++◌, map, length, take, Bool, true, false, not, ◌&&◌, ◌||◌, ◌==◌, Option, Some, None, append_assoc, length-append, arith}
+use Rattle.std.proofs.Common.{◌≡◌, refl, sym, ap, ◌∙◌, ℕ, suc, ◌+◌, ◌*◌, ◌<◌, ◌≤◌, List, [], ◌∷◌, ◌++◌, length, take, Bool, true, false, not, ◌&&◌, ◌||◌, ◌==◌, Some, append_assoc, length-append, arith}
 use Rattle.std.specs.Prelude.{nat_lt, option_map, unwrap_or, if◌then◌else◌}
 use Rattle.std.specs.List.{list_all, list_any, slice_get, enumerate_from}
 use Rattle.std.proofs.lemmas.Bool.Decides.{nat_tests}
@@ -104,8 +104,8 @@ module _ (n : ℕ) (rows : List Row) where
       let z : k ≡ suc (suc i) = omega (arith, at) in
       let count : i + 1 ≡ length (earlier ++ feature_row f ∷ []) = ap (λ n. n + 1) l ∙ sym (length-append earlier (feature_row f ∷ [])) in
       let below : variable_after rows n k ≡ f
-          = ap (variable_after rows n) z
-          ∙ ap (λ r. unwrap_or (option_map (λ x. x.variable) r) n) (ap (slice_get rows) l ∙ ap (λ rs. slice_get rs (length earlier)) (e ∙ append_assoc earlier (feature_row f ∷ []) rest) ∙ get_next earlier (feature_row f) rest) in
+      = ap (variable_after rows n) z
+      ∙ ap (λ r. unwrap_or (option_map (λ x. x.variable) r) n) (ap (slice_get rows) l ∙ ap (λ rs. slice_get rs (length earlier)) (e ∙ append_assoc earlier (feature_row f ∷ []) rest) ∙ get_next earlier (feature_row f) rest) in
       seven _ _ _ _ _ _ _ root (first i) (own i k at) root (ap (nat_lt 0) below ∙ less) (apart k i at)
       (ap (λ rs. not (list_any (same_row (row_above k)) rs)) (taken rows (earlier ++ feature_row f ∷ []) rest (i + 1) e count) ∙ ap not new)
     where
@@ -174,10 +174,10 @@ module _ (n : ℕ) (root : nat_lt 0 n ≡ true) (rows : List Row) where
       let rest : List Row = row_above k ∷ feature_rows (k + 2) fs in
       let e2 : rows ≡ (earlier ++ feature_row f ∷ []) ++ rest = e ∙ sym (append_assoc earlier (feature_row f ∷ []) rest) in
       let e3 : rows ≡ (earlier ++ feature_row f ∷ row_above k ∷ []) ++ feature_rows (k + 2) fs
-          = e ∙ sym (append_assoc earlier (feature_row f ∷ row_above k ∷ []) (feature_rows (k + 2) fs)) in
+      = e ∙ sym (append_assoc earlier (feature_row f ∷ row_above k ∷ []) (feature_rows (k + 2) fs)) in
       let new : list_any (same_row (row_above k)) (earlier ++ feature_row f ∷ []) ≡ false
-          = any_both (same_row (row_above k)) earlier (feature_row f ∷ [])
-          ∙ two (list_any (same_row (row_above k)) earlier) (same_row (row_above k) (feature_row f)) (b.none_above k (omega arith)) (ap (λ c. c && true && (k == 1)) (turned f 0 z)) in
+      = any_both (same_row (row_above k)) earlier (feature_row f ∷ [])
+      ∙ two (list_any (same_row (row_above k)) earlier) (same_row (row_above k) (feature_row f)) (b.none_above k (omega arith)) (ap (λ c. c && true && (k == 1)) (turned f 0 z)) in
       let count : length (earlier ++ feature_row f ∷ row_above k ∷ []) ≡ length earlier + 2 = length-append earlier (feature_row f ∷ row_above k ∷ []) in
       all_true _ _ (feature_fits n rows f i earlier (feature_row f ∷ rest) e l inner.1 (b.no_feature f z m))
       (all_true _ _ (above_fits n rows f i k earlier rest e2 l at root (some_number f z) new)
