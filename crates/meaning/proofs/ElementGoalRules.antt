@@ -17,8 +17,8 @@ use Rattle.meaning.proofs.EmptyLists.{both_true, with_test, nothing_in}
 use Rattle.meaning.proofs.ItemRules.{form_of_five}
 use Rattle.meaning.proofs.ThinLineRules.{named_member}
 use Rattle.meaning.proofs.ThinGoalRules.{GoalParts, goal_parts}
-use Rattle.meaning.proofs.HoleTexts.{opened}
-use Rattle.meaning.proofs.StrategyTests.{element_goal_passes}
+use Rattle.meaning.specs.StrategyTests.{opened}
+use Rattle.meaning.specs.StrategyTests.{element_goal_passes}
 use Rattle.meaning.proofs.StrategyRules.{holes_told, name_right, after_form, only_first}
 
 same_text : (s : List ℕ) → bytes_eq s s ≡ true

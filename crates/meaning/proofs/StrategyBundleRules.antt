@@ -20,7 +20,7 @@ use Rattle.meaning.proofs.ThinRules.{rules_by_part, line_has_names}
 use Rattle.meaning.proofs.PlainTypes.{empty_list, plain_type_names}
 use Rattle.meaning.proofs.ThinDocuments.{passing_model}
 use Rattle.meaning.proofs.OneTemplateRules.{templates_are_thin}
-use Rattle.meaning.proofs.StrategyTests.{nodes_pass, one_thin_template_passes, type_names_in, thin_bundle_passes}
+use Rattle.meaning.specs.StrategyTests.{nodes_pass, one_thin_template_passes, type_names_in, thin_bundle_passes}
 use Rattle.meaning.proofs.StrategyNodes.{thin_nodes_are}
 
 -- ---- the templates, over a model that passes

@@ -27,8 +27,9 @@ use Rattle.meaning.proofs.ThinGoalRules.{GoalParts, goal_parts, passing_goal, go
 use Rattle.meaning.proofs.ThinRules.{line_has_names}
 use Rattle.meaning.proofs.ThinDocuments.{goal_word, goal_is, names_of_line, passing_line, passing_model, bundle_with}
 use Rattle.meaning.proofs.EachTexts.{each_query}
-use Rattle.meaning.proofs.HoleTexts.{opened, segments_of, strategy_piece, goal_piece, strategy_text_parts, goal_text_parts}
-use Rattle.meaning.proofs.StrategyTests.{type_of_each, text_passes, strategy_passes, element_goal_passes, nodes_pass, thin_template_passes, one_thin_template_passes, type_names_in, enumeration_in, enumeration_of_template, thin_bundle_passes, thin_bundle}
+use Rattle.meaning.proofs.HoleTexts.{strategy_text_parts, goal_text_parts}
+use Rattle.meaning.specs.StrategyTests.{opened, segments_of, strategy_piece, goal_piece}
+use Rattle.meaning.specs.StrategyTests.{type_of_each, text_passes, strategy_passes, element_goal_passes, nodes_pass, thin_template_passes, one_thin_template_passes, type_names_in, enumeration_in, enumeration_of_template, thin_bundle_passes, thin_bundle}
 use Rattle.meaning.proofs.StrategyRules.{StrategyParts, strategy_parts, told_each, name_part}
 use Rattle.meaning.proofs.StrategyNodes.{strategy_facts, ids, placed_goal, placed_strategy, placed_last, strategy_scope, last_scope}
 use Rattle.meaning.proofs.StrategyBundleRules.{known_types}

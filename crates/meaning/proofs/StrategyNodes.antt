@@ -23,7 +23,7 @@ use Rattle.meaning.proofs.PlainTypes.{absent}
 use Rattle.meaning.proofs.ThinGoalRules.{GoalParts, goal_parts, passing_goal, goal_has_name, goal_is_plain_goal}
 use Rattle.meaning.proofs.ThinDocuments.{goal_word}
 use Rattle.meaning.proofs.EachTexts.{each_query}
-use Rattle.meaning.proofs.StrategyTests.{type_of_each, text_passes, strategy_passes, element_goal_passes, nodes_pass}
+use Rattle.meaning.specs.StrategyTests.{type_of_each, text_passes, strategy_passes, element_goal_passes, nodes_pass}
 use Rattle.meaning.proofs.StrategyRules.{StrategyParts, strategy_parts, told_each, strategy_is_plain}
 use Rattle.meaning.proofs.ElementGoalRules.{element_goal_is_plain}
 

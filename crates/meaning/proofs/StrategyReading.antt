@@ -31,8 +31,8 @@ use Rattle.meaning.proofs.ThinRules.{line_features, line_has_names}
 use Rattle.meaning.proofs.ThinDocuments.{names_split, known_conditions}
 use Rattle.meaning.proofs.ThinReading.{names_are_proper}
 use Rattle.meaning.proofs.ThinCasesRead.{name_part_is_text, PartsAreTexts, IsProperThin, thin_is_built}
-use Rattle.meaning.proofs.HoleTexts.{segments_of, strategy_piece, goal_piece}
-use Rattle.meaning.proofs.StrategyTests.{strategy_passes, element_goal_passes, nodes_pass, one_thin_template_passes, type_names_in, enumeration_in, enumeration_of_template, thin_bundle_passes, thin_bundle}
+use Rattle.meaning.specs.StrategyTests.{segments_of, strategy_piece, goal_piece}
+use Rattle.meaning.specs.StrategyTests.{strategy_passes, element_goal_passes, nodes_pass, one_thin_template_passes, type_names_in, enumeration_in, enumeration_of_template, thin_bundle_passes, thin_bundle}
 use Rattle.meaning.proofs.StrategyDocuments.{text_facts, strategy_text_passes, last_facts, passing_thin_template, thin_passing_parts, thin_is_bundle}
 
 -- ---- the segments of a text are texts

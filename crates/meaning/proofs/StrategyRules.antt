@@ -27,8 +27,9 @@ use Rattle.meaning.proofs.NameTexts.{name_begins, name_has_word_bytes, name_is_s
 use Rattle.meaning.proofs.ThinLineRules.{named_member}
 use Rattle.meaning.proofs.PlainTypes.{absent, not_true}
 use Rattle.meaning.proofs.EachTexts.{cut_back, space_back, each_query, each_fault}
-use Rattle.meaning.proofs.HoleTexts.{opened, few_holes}
-use Rattle.meaning.proofs.StrategyTests.{type_of_each, strategy_passes}
+use Rattle.meaning.proofs.HoleTexts.{few_holes}
+use Rattle.meaning.specs.StrategyTests.{opened}
+use Rattle.meaning.specs.StrategyTests.{type_of_each, strategy_passes}
 
 -- ---- a plain strategy
 
