@@ -1,5 +1,5 @@
 -- The document of any case has the members of its tables in order, and nests no deeper than a text may.
-use Rattle.std.proofs.Common.{◌≡◌, ◌≤◌, ◌^◌, ℕ, suc, max, List, [], ◌∷◌, ◌++◌, map, Bool, true, false, ◌&&◌, if◌then◌else◌, Option, Some, None, pos, refl, sym, ap, ap₂, ◌∙◌, arith}
+use Rattle.std.proofs.Common.{◌≡◌, ◌≤◌, ◌^◌, ℕ, suc, List, [], ◌∷◌, ◌++◌, map, Bool, true, false, ◌&&◌, if◌then◌else◌, Option, Some, None, pos, refl, ap₂, arith}
 use Rattle.std.specs.Prelude.{⊤, nat_lt, codes}
 use Rattle.serde_json.specs.Data.{Data, null, boolean, number, string, array, object}
 use Rattle.meaning.specs.Documents.{Document, of_json, items_of_json, members_of_json, or_left_out}
@@ -8,7 +8,7 @@ use Rattle.meaning.specs.CaseFiles.{Row, CasePart, words, count, CaseCheck, Neve
 use Rattle.meaning.specs.Cases.{kind_word}
 use Rattle.meaning.specs.CaseBytes.{items_of, members_of, list_data, natural_data, part_data, row_data, target_data, witness_data, finding_members, branch_members, finding_member, node_data, relation_word, relation_data, transition_data, system_data, case_data}
 use Rattle.doc_tree.specs.Order.{is_before, is_before_all, names_rise, is_in_order, items_in_order, values_in_order, nesting, items_nesting, values_nesting, most_nesting}
-use Rattle.lifted_case.proofs.Plain.{both_true}
+use Rattle.doc_tree.proofs.Writing.{both_true}
 
 -- ---- documents
 
@@ -189,10 +189,10 @@ node_fits n =
     let middle = middle_members n.key (kind_word n.kind) n.parts in
     let first = both_fit 4 (branch_members n.branches) (finding_member n.finding) (branches_fit n.branches) (finding_fits_if n.finding) in
     let second = both_fit 4 (branch_members n.branches ++ finding_member n.finding) middle first
-            (string_fits 4 n.key, (string_fits 4 (kind_word n.kind), (list_fits 3 part_data (part_fits 3) n.parts, tt))) in
+    (string_fits 4 n.key, (string_fits 4 (kind_word n.kind), (list_fits 3 part_data (part_fits 3) n.parts, tt))) in
     let third = both_fit 4 (branch_members n.branches ++ finding_member n.finding ++ middle) (undeveloped_member n.undeveloped) second (undeveloped_fits n.undeveloped) in
     let fourth = both_fit 4 (branch_members n.branches ++ finding_member n.finding ++ middle ++ undeveloped_member n.undeveloped)
-            ((codes "when", natural_data n.presence) ∷ []) third (natural_fits 4 n.presence, tt) in
+    ((codes "when", natural_data n.presence) ∷ []) third (natural_fits 4 n.presence, tt) in
     object_fits 4 (node_members n.branches n.finding n.key (kind_word n.kind) n.parts n.undeveloped n.presence)
     (node_names_rise n.branches n.finding n.key (kind_word n.kind) n.parts n.undeveloped n.presence) fourth
 
@@ -204,19 +204,38 @@ relation_fits r =
 system_fits : (s : CaseSystem) → Fits 5 (of_json (system_data s))
 system_fits s =
     object_fits 4 ((codes "element", string s.element) ∷ (codes "parents", list_data natural_data s.parents) ∷ (codes "reached", list_data natural_data s.reached)
-    ∷ (codes "states", list_data string s.states) ∷ (codes "transitions", list_data transition_data s.transitions) ∷ []) refl
-    (string_fits 4 s.element, (list_fits 3 natural_data (natural_fits 3) s.parents, (list_fits 3 natural_data (natural_fits 3) s.reached,
-    (list_fits 3 string (string_fits 3) s.states, (list_fits 3 transition_data (transition_fits 2) s.transitions, tt)))))
+    ∷ (codes "states", list_data string s.states) ∷ (codes "transitions", list_data transition_data s.transitions) ∷ []) refl (
+      string_fits 4 s.element,
+      (
+        list_fits 3 natural_data (natural_fits 3) s.parents,
+        (
+          list_fits 3 natural_data (natural_fits 3) s.reached,
+          (list_fits 3 string (string_fits 3) s.states, (list_fits 3 transition_data (transition_fits 2) s.transitions, tt)),
+        ),
+      ),
+    )
 
 case_fits : (k : CaseDocument) → Fits 7 (of_json (case_data k))
 case_fits k =
     object_fits 6 ((codes "case", natural_data 1) ∷ (codes "features", list_data string k.features)
     ∷ (codes "nodes", list_data node_data k.nodes) ∷ (codes "relations", list_data relation_data k.relations)
     ∷ (codes "systems", list_data system_data k.systems) ∷ (codes "table", list_data row_data k.table)
-    ∷ (codes "title", string k.title) ∷ (codes "valid", natural_data k.valid) ∷ []) refl
-    (natural_fits 6 1, (list_fits 5 string (string_fits 5) k.features, (list_fits 5 node_data node_fits k.nodes,
-    (list_fits 5 relation_data relation_fits k.relations, (list_fits 5 system_data system_fits k.systems,
-    (list_fits 5 row_data (row_fits 4) k.table, (string_fits 6 k.title, (natural_fits 6 k.valid, tt))))))))
+    ∷ (codes "title", string k.title) ∷ (codes "valid", natural_data k.valid) ∷ []) refl (
+      natural_fits 6 1,
+      (
+        list_fits 5 string (string_fits 5) k.features,
+        (
+          list_fits 5 node_data node_fits k.nodes,
+          (
+            list_fits 5 relation_data relation_fits k.relations,
+            (
+              list_fits 5 system_data system_fits k.systems,
+              (list_fits 5 row_data (row_fits 4) k.table, (string_fits 6 k.title, (natural_fits 6 k.valid, tt))),
+            ),
+          ),
+        ),
+      ),
+    )
 
 pub case_in_order : (k : CaseDocument) → is_in_order (of_json (case_data k)) ≡ true
 case_in_order k = (case_fits k).in_order

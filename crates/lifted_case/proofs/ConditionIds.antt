@@ -7,7 +7,6 @@ use Rattle.std.proofs.lemmas.Bool.Decides.{nat_tests}
 use Rattle.std.proofs.lemmas.List.{get_or-set_same, get_or-set_other, length-set}
 use Rattle.std.proofs.lemmas.List.Sums.{sum_by-set, sum_by-cons}
 use Rattle.meaning.specs.ThinCases.{is_met, met_with, id_from, feature_row, row_above, feature_rows}
-use Rattle.meaning.specs.CaseFiles.{Row}
 use Rattle.lifted_case.specs.Conditions.{mark, IsFilled}
 
 same_number : (a b : ℕ) → a ≡ b → (a == b) ≡ true
@@ -108,7 +107,7 @@ IsFilled-new met ids f h within none = record {
   found = λ g below. found_new met ids f h within none g below (f == g) refl;
   counted =
       let e : sum_by mark (set ids f (4 + 2 * length met)) + mark (get_or ids f 0) ≡ sum_by mark ids + mark (4 + 2 * length met) =
-          sum_by-set mark ids f (4 + 2 * length met) 0 within in
+      sum_by-set mark ids f (4 + 2 * length met) 0 within in
       let before : mark (get_or ids f 0) ≡ 0 = mark_none (get_or ids f 0) none in
       let after : mark (4 + 2 * length met) ≡ 1 = mark_some (4 + 2 * length met) (λ z. absurd (omega arith)) in
       let count : sum_by mark ids ≡ length met = h.counted in

@@ -1,8 +1,8 @@
 -- The case document of a thin bundle with one goal.
-use Rattle.std.proofs.Common.{◌≡◌, ℕ, List, [], ◌∷◌, false, Option, None, refl, sym, ap, ap₂, ◌∙◌}
+use Rattle.std.proofs.Common.{◌≡◌, ℕ, List, [], ◌∷◌, false, None, refl, sym, ap, ap₂, ◌∙◌}
 use Rattle.std.specs.Prelude.{codes}
 use Rattle.meaning.specs.CaseFiles.{CaseDocument}
-use Rattle.meaning.specs.ThinCases.{ThinBundle, Enumeration, thin_names, thin_case, thin_case_of, thin_table, goal_case_node}
+use Rattle.meaning.specs.ThinCases.{ThinBundle, thin_names, thin_case, thin_case_of, thin_table, goal_case_node}
 use Rattle.lifted_case.specs.declared.thin.ThinCase.{ThinCase}
 use Rattle.lifted_case.specs.declared.thin.ThinNode.{ThinNode}
 use Rattle.lifted_case.specs.declared.thin.ThinPart.TheVariants as part

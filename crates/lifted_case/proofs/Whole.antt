@@ -1,5 +1,5 @@
 -- The bytes of a document that is the one of a case.
-use Rattle.std.proofs.Common.{◌≡◌, ◌≤◌, ℕ, List, [], ◌∷◌, ◌++◌, true, Some, refl, sym, ap, ◌∙◌, subst}
+use Rattle.std.proofs.Common.{◌≡◌, ◌≤◌, ℕ, List, [], ◌∷◌, ◌++◌, true, Some, sym, ap, ◌∙◌, subst}
 use Rattle.meaning.specs.Cases.{newline}
 use Rattle.meaning.specs.CaseFiles.{CaseDocument}
 use Rattle.meaning.specs.CaseBytes.{case_bytes, case_data}

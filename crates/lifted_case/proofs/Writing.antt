@@ -1,7 +1,7 @@
 -- Documents that are written as values, put together from their parts.
-use Rattle.std.proofs.Common.{◌≡◌, ◌<◌, ◌≤◌, ◌+◌, ◌*◌, ℕ, List, [], ◌∷◌, ◌++◌, map, length, take, drop, get_or, Bool, true, false, ◌&&◌, refl, sym, ap, ap₂, ◌∙◌, subst, append-nil, append_assoc, arith}
+use Rattle.std.proofs.Common.{◌≡◌, ◌<◌, ◌≤◌, ◌+◌, ◌*◌, ℕ, List, [], ◌∷◌, ◌++◌, map, length, take, drop, get_or, Bool, true, ◌&&◌, refl, sym, ap, ap₂, ◌∙◌, subst, append-nil, append_assoc, arith}
 use Rattle.std.proofs.lemmas.List.{take_more, length-take-le, drop_all}
-use Rattle.serde_json.specs.Data.{Data, null, boolean, number, string, array, object}
+use Rattle.serde_json.specs.Data.{Data, array, object}
 use Rattle.meaning.specs.CaseBytes.{items_of, members_of, part_data, row_data}
 use Rattle.meaning.specs.CaseFiles.{CasePart, words, count}
 use Rattle.meaning.specs.Templates.{joined_parts, in_front}
@@ -13,11 +13,12 @@ use Rattle.doc_tree.specs.declared.doc.Doc.TheVariants as doc
 use Rattle.doc_tree.specs.View.{document, documents, documents_of, members}
 use Rattle.doc_tree.specs.View as view
 use Rattle.doc_tree.proofs.Levels.{document-List, document-Table}
+use Rattle.doc_tree.proofs.Writing.{both_true, map-more}
 use Rattle.lifted_case.specs.declared.thin.ThinPart.{ThinPart}
 use Rattle.lifted_case.specs.View.{part_of}
 use Rattle.lifted_case.specs.Written.{is_plain, items_are_plain, members_are_plain, IsWritten, AreWritten, MembersWritten, part_documents, with_part}
 use Rattle.lifted_case.proofs.ConditionIds.{feature_rows-more}
-use Rattle.lifted_case.proofs.Plain.{both_true, or_left_out-plain}
+use Rattle.lifted_case.proofs.Plain.{or_left_out-plain}
 
 -- ---- lists
 
@@ -32,10 +33,6 @@ IsWritten-list d docs items vs e same all = record {
       ∙ ap (λ ds. meaning.list (documents_of ds)) all.read ∙ ap meaning.list (documents_of-map vs);
   plain = all.plain;
 }
-
-map-more : {A B : Type 0} (f : A → B) (xs : List A) (x : A) → map f (xs ++ x ∷ []) ≡ map f xs ++ f x ∷ []
-map-more f [] x = refl
-map-more f (y ∷ xs) x = ap (λ ys. f y ∷ ys) (map-more f xs x)
 
 and_true : (a b : Bool) → a ≡ true → b ≡ true → (a && b) ≡ true
 and_true a b p q = ap₂ (λ x y. x && y) p q
@@ -104,8 +101,8 @@ rows-next met i id r0 r1 r2 a b within at first second all p q =
     let long : length (take i met) ≡ i = length-take-le i met (omega arith) in
     let here : id ≡ 3 + 2 * length (take i met) = omega arith in
     let grown : feature_rows 3 (take (i + 1) met) ≡ feature_rows 3 (take i met) ++ feature_row f ∷ row_above id ∷ [] =
-        ap (feature_rows 3) (take_more met i 0 within) ∙ feature_rows-more 3 (take i met) f
-        ∙ ap (λ n. feature_rows 3 (take i met) ++ feature_row f ∷ row_above n ∷ []) (sym here) in
+    ap (feature_rows 3) (take_more met i 0 within) ∙ feature_rows-more 3 (take i met) f
+    ∙ ap (λ n. feature_rows 3 (take i met) ++ feature_row f ∷ row_above n ∷ []) (sym here) in
     AreWritten-as (documents r2) ((map row_data before ++ row_data (feature_row f) ∷ []) ++ row_data (row_above id) ∷ []) (map row_data (root_row ∷ feature_rows 3 (take (i + 1) met)))
     (sym (map-two row_data before (feature_row f) (row_above id)) ∙ sym (ap (λ rs. map row_data (root_row ∷ rs)) grown))
     (AreWritten-more r1 r2 (map row_data before ++ row_data (feature_row f) ∷ []) b (row_data (row_above id)) second
@@ -202,8 +199,8 @@ pub count-added : (before ended counted : List Doc) (old new : List ℕ) (d : Do
     → documents counted ++ part_documents (in_front new rest) ≡ documents before ++ part_documents (in_front old (count ∷ rest))
 count-added before ended counted old new d rest end step is none =
     let ended_documents : documents counted ≡ (documents before ++ part_documents (in_front old [])) ++ of_json (part_data count) ∷ [] =
-        ap documents step ∙ map-more document ended d ∙ ap (λ ds. ds ++ document d ∷ []) end
-        ∙ ap (λ x. (documents before ++ part_documents (in_front old [])) ++ x ∷ []) is in
+    ap documents step ∙ map-more document ended d ∙ ap (λ ds. ds ++ document d ∷ []) end
+    ∙ ap (λ x. (documents before ++ part_documents (in_front old [])) ++ x ∷ []) is in
     ap (λ s. documents counted ++ part_documents (in_front s rest)) none
     ∙ ap (λ ds. ds ++ part_documents rest) ended_documents
     ∙ append_assoc (documents before ++ part_documents (in_front old [])) (of_json (part_data count) ∷ []) (part_documents rest)

@@ -1,4 +1,4 @@
-ghost use Rattle.std.specs.Prelude.{◌≡◌, ◌≤◌, ℕ, List, [], ◌∷◌, ◌++◌, ◌<◌, IfOk, OnOk, length, vec_len, slice_index};
+ghost use Rattle.std.specs.Prelude.{◌≡◌, ◌≤◌, [], IfOk, OnOk, length, vec_len};
 ghost use Rattle.meaning.specs.ThinCases.{met_with, met_after, condition_id};
 ghost use Rattle.lifted_case.specs.View.{node_conditions, conditions};
 ghost use Rattle.lifted_case.specs.Conditions.{IsFilled};
@@ -71,6 +71,7 @@ fn meet(met: &mut Vec<u16>, ids: &mut [u32], condition: u16) -> Result<(), NoMem
 }
 
 impl Conditions {
+    /// The conditions of a case, found in one pass over it.
     pub fn of(alloc: Global, case: &ThinCase) -> Result<Conditions, NoMemory>
         ensures { IfOk result (λ c. c.met.items ≡ met_after [] (conditions case.now)) }
     {
@@ -95,7 +96,7 @@ impl Conditions {
         }
     }
 
-    /// There are not more conditions than numbers.
+    /// The conditions met, which are not more than there are numbers for one.
     pub fn met(&self) -> &[u16]
         ensures met { result.now ≡ self.now.met.items }
         ensures few { length result.now ≤ 65536 }

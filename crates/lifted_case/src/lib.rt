@@ -14,11 +14,10 @@ mod parts;
 mod relations;
 mod rows;
 mod tables;
-mod thin;
-mod write;
-
 #[cfg(test)]
 mod tests;
+mod thin;
+mod write;
 
 pub use thin::{ThinCase, ThinNode, ThinPart, ThinRel};
 pub use write::write_thin;

@@ -59,7 +59,12 @@ fn node(alloc: Global, node: &ThinNode, conditions: &Conditions) -> Result<Doc, 
     add(alloc, &mut entries, "key", key)?;
     add(alloc, &mut entries, "kind", kind)?;
     add(alloc, &mut entries, "text", parts)?;
-    add(alloc, &mut entries, "when", number(conditions.id(node.when)))?;
+    add(
+        alloc,
+        &mut entries,
+        "when",
+        number(conditions.id(node.when)),
+    )?;
     Ok(table(entries))
 }
 

@@ -1,4 +1,4 @@
-ghost use Rattle.std.specs.Prelude.{◌≡◌, IfOk, map};
+ghost use Rattle.std.specs.Prelude.{IfOk, map};
 ghost use Rattle.meaning.specs.CaseBytes.{relation_data, list_data};
 ghost use Rattle.doc_tree.specs.View.{document};
 ghost use Rattle.lifted_case.specs.View.{relation_of};
@@ -19,15 +19,16 @@ fn relation(alloc: Global, relation: &ThinRel, conditions: &Conditions) -> Resul
     add(alloc, &mut entries, "from", number(relation.from))?;
     add(alloc, &mut entries, "kind", kind)?;
     add(alloc, &mut entries, "to", number(relation.to))?;
-    add(alloc, &mut entries, "when", number(conditions.id(relation.when)))?;
+    add(
+        alloc,
+        &mut entries,
+        "when",
+        number(conditions.id(relation.when)),
+    )?;
     Ok(table(entries))
 }
 
-pub fn relations(
-    alloc: Global,
-    all: &[ThinRel],
-    conditions: &Conditions,
-) -> Result<Doc, NoMemory>
+pub fn relations(alloc: Global, all: &[ThinRel], conditions: &Conditions) -> Result<Doc, NoMemory>
     ensures { IfOk result (λ d. IsWritten (document d)
         (list_data relation_data (map (relation_of conditions.now.met.items) all.now))) }
 {

@@ -19,12 +19,7 @@ fn goal(alloc: Global, key: &str, text: &str, when: u16) -> Result<ThinNode, NoM
     })
 }
 
-fn strategy(
-    alloc: Global,
-    texts: &[&str],
-    first: u16,
-    second: u16,
-) -> Result<ThinNode, NoMemory> {
+fn strategy(alloc: Global, texts: &[&str], first: u16, second: u16) -> Result<ThinNode, NoMemory> {
     let mut parts = Vec::new(alloc);
     for text in texts {
         parts.push(words(alloc, text)?)?;
@@ -62,12 +57,7 @@ fn one_goal(alloc: Global, title: &str, text: &str) -> Result<ThinCase, NoMemory
 }
 
 /// A goal over a strategy over two goals, under the features `first` and `second`.
-fn over_two(
-    alloc: Global,
-    texts: &[&str],
-    first: u16,
-    second: u16,
-) -> Result<ThinCase, NoMemory> {
+fn over_two(alloc: Global, texts: &[&str], first: u16, second: u16) -> Result<ThinCase, NoMemory> {
     let mut nodes = Vec::new(alloc);
     nodes.push(goal(alloc, "0", "All", 0)?)?;
     nodes.push(strategy(alloc, texts, first, second)?)?;
@@ -99,9 +89,15 @@ fn written(alloc: Global, case: Result<ThinCase, NoMemory>) -> Result<Vec<u8>, F
 fn writes_one_goal(rt: HostRuntime) -> Result<(), Fail> {
     let alloc = rt.alloc();
     let plain = written(alloc, one_goal(alloc, "T", "Safe"))?;
-    assert_eq!(rt; plain.as_slice(), b"{\"case\":1,\"features\":[\"R\"],\"nodes\":[{\"key\":\"0\",\"kind\":\"goal\",\"text\":[\"Safe\"],\"when\":2}],\"relations\":[],\"systems\":[],\"table\":[[0,0,1]],\"title\":\"T\",\"valid\":2}\n".as_slice());
+    assert_eq!(rt;
+        plain.as_slice(),
+        b"{\"case\":1,\"features\":[\"R\"],\"nodes\":[{\"key\":\"0\",\"kind\":\"goal\",\"text\":[\"Safe\"],\"when\":2}],\"relations\":[],\"systems\":[],\"table\":[[0,0,1]],\"title\":\"T\",\"valid\":2}\n".as_slice()
+    );
     let escaped = written(alloc, one_goal(alloc, "\"é\"", "a\\b"))?;
-    assert_eq!(rt; escaped.as_slice(), "{\"case\":1,\"features\":[\"R\"],\"nodes\":[{\"key\":\"0\",\"kind\":\"goal\",\"text\":[\"a\\\\b\"],\"when\":2}],\"relations\":[],\"systems\":[],\"table\":[[0,0,1]],\"title\":\"\\\"é\\\"\",\"valid\":2}\n".as_bytes());
+    assert_eq!(rt;
+        escaped.as_slice(),
+        "{\"case\":1,\"features\":[\"R\"],\"nodes\":[{\"key\":\"0\",\"kind\":\"goal\",\"text\":[\"a\\\\b\"],\"when\":2}],\"relations\":[],\"systems\":[],\"table\":[[0,0,1]],\"title\":\"\\\"é\\\"\",\"valid\":2}\n".as_bytes()
+    );
     Ok(())
 }
 
@@ -109,7 +105,10 @@ fn writes_one_goal(rt: HostRuntime) -> Result<(), Fail> {
 fn writes_a_strategy_over_two_goals(rt: HostRuntime) -> Result<(), Fail> {
     let alloc = rt.alloc();
     let bytes = written(alloc, over_two(alloc, &["Over "], 1, 2))?;
-    assert_eq!(rt; bytes.as_slice(), b"{\"case\":1,\"features\":[\"R\",\"A\",\"B\"],\"nodes\":[{\"key\":\"0\",\"kind\":\"goal\",\"text\":[\"All\"],\"when\":2},{\"branches\":[4,6],\"key\":\"0/1\",\"kind\":\"strategy\",\"text\":[\"Over \",0],\"when\":2},{\"key\":\"0/1/0:2\",\"kind\":\"goal\",\"text\":[\"Handle x\"],\"when\":4},{\"key\":\"0/1/1:2\",\"kind\":\"goal\",\"text\":[\"Handle y\"],\"when\":6}],\"relations\":[{\"from\":0,\"kind\":\"supported\",\"to\":1,\"when\":2},{\"from\":1,\"kind\":\"supported\",\"to\":2,\"when\":4},{\"from\":1,\"kind\":\"supported\",\"to\":3,\"when\":6}],\"systems\":[],\"table\":[[0,0,1],[1,0,1],[0,0,3],[2,0,1],[0,0,5]],\"title\":\"Row\",\"valid\":2}\n".as_slice());
+    assert_eq!(rt;
+        bytes.as_slice(),
+        b"{\"case\":1,\"features\":[\"R\",\"A\",\"B\"],\"nodes\":[{\"key\":\"0\",\"kind\":\"goal\",\"text\":[\"All\"],\"when\":2},{\"branches\":[4,6],\"key\":\"0/1\",\"kind\":\"strategy\",\"text\":[\"Over \",0],\"when\":2},{\"key\":\"0/1/0:2\",\"kind\":\"goal\",\"text\":[\"Handle x\"],\"when\":4},{\"key\":\"0/1/1:2\",\"kind\":\"goal\",\"text\":[\"Handle y\"],\"when\":6}],\"relations\":[{\"from\":0,\"kind\":\"supported\",\"to\":1,\"when\":2},{\"from\":1,\"kind\":\"supported\",\"to\":2,\"when\":4},{\"from\":1,\"kind\":\"supported\",\"to\":3,\"when\":6}],\"systems\":[],\"table\":[[0,0,1],[1,0,1],[0,0,3],[2,0,1],[0,0,5]],\"title\":\"Row\",\"valid\":2}\n".as_slice()
+    );
     Ok(())
 }
 
@@ -117,6 +116,9 @@ fn writes_a_strategy_over_two_goals(rt: HostRuntime) -> Result<(), Fail> {
 fn joins_words_and_meets_a_feature_once(rt: HostRuntime) -> Result<(), Fail> {
     let alloc = rt.alloc();
     let bytes = written(alloc, over_two(alloc, &["", "O", "ver", ""], 2, 2))?;
-    assert_eq!(rt; bytes.as_slice(), b"{\"case\":1,\"features\":[\"R\",\"A\",\"B\"],\"nodes\":[{\"key\":\"0\",\"kind\":\"goal\",\"text\":[\"All\"],\"when\":2},{\"branches\":[4,4],\"key\":\"0/1\",\"kind\":\"strategy\",\"text\":[\"Over\",0],\"when\":2},{\"key\":\"0/1/0:2\",\"kind\":\"goal\",\"text\":[\"Handle x\"],\"when\":4},{\"key\":\"0/1/1:2\",\"kind\":\"goal\",\"text\":[\"Handle y\"],\"when\":4}],\"relations\":[{\"from\":0,\"kind\":\"supported\",\"to\":1,\"when\":2},{\"from\":1,\"kind\":\"supported\",\"to\":2,\"when\":4},{\"from\":1,\"kind\":\"supported\",\"to\":3,\"when\":4}],\"systems\":[],\"table\":[[0,0,1],[2,0,1],[0,0,3]],\"title\":\"Row\",\"valid\":2}\n".as_slice());
+    assert_eq!(rt;
+        bytes.as_slice(),
+        b"{\"case\":1,\"features\":[\"R\",\"A\",\"B\"],\"nodes\":[{\"key\":\"0\",\"kind\":\"goal\",\"text\":[\"All\"],\"when\":2},{\"branches\":[4,4],\"key\":\"0/1\",\"kind\":\"strategy\",\"text\":[\"Over\",0],\"when\":2},{\"key\":\"0/1/0:2\",\"kind\":\"goal\",\"text\":[\"Handle x\"],\"when\":4},{\"key\":\"0/1/1:2\",\"kind\":\"goal\",\"text\":[\"Handle y\"],\"when\":4}],\"relations\":[{\"from\":0,\"kind\":\"supported\",\"to\":1,\"when\":2},{\"from\":1,\"kind\":\"supported\",\"to\":2,\"when\":4},{\"from\":1,\"kind\":\"supported\",\"to\":3,\"when\":4}],\"systems\":[],\"table\":[[0,0,1],[2,0,1],[0,0,3]],\"title\":\"Row\",\"valid\":2}\n".as_slice()
+    );
     Ok(())
 }

@@ -39,3 +39,11 @@ pub mod ThinReading
 pub mod ThinTableFits
 pub mod ThinCasesRead
 pub mod EachTexts
+pub mod HoleTexts
+pub mod StrategyRules
+pub mod ElementGoalRules
+pub mod StrategyNodes
+pub mod OneTemplateRules
+pub mod StrategyBundleRules
+pub mod StrategyDocuments
+pub mod StrategyReading

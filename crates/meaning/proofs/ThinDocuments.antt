@@ -188,7 +188,7 @@ words_of m scope s h = ap (λ o. map (part_of m scope) (unwrap_or o [])) (plain_
     go (c ∷ cs) = refl
 
 -- the word of a goal's kind
-goal_word : (s : List ℕ) → kind_named s ≡ a_goal → s ≡ codes "goal"
+pub goal_word : (s : List ℕ) → kind_named s ≡ a_goal → s ≡ codes "goal"
 goal_word s e = (bytes_eq-Decides s (codes "goal")).0 (go (bytes_eq s (codes "goal")) (bytes_eq s (codes "strategy")) (bytes_eq s (codes "solution")) (bytes_eq s (codes "context"))
     (bytes_eq s (codes "assumption")) (bytes_eq s (codes "justification")) (bytes_eq s (codes "use")) (ap is_goal e))
   where
@@ -204,7 +204,7 @@ goal_word s e = (bytes_eq-Decides s (codes "goal")).0 (go (bytes_eq s (codes "go
     go false false false false false false false e = e
 
 module _ (m : Model) (templates ids : List (List ℕ)) where
-  goal_is : (g : Document) → goal_passes g ≡ true → (place_under m templates [] ids [] g).node ≡ thin_node Goal None (goal_words (text_at (codes "text") g)) None
+  pub goal_is : (g : Document) → goal_passes g ≡ true → (place_under m templates [] ids [] g).node ≡ thin_node Goal None (goal_words (text_at (codes "text") g)) None
   goal_is g e =
       let tests = passing_goal g e in
       let p = goal_parts g tests.0 in
@@ -254,7 +254,7 @@ passing_parts d e =
     let by_line = both_true _ _ by_model.0 in
     record { itself = by_line.0; line = by_line.1; model = by_model.1; template = by_template.1 }
 
-abbrev bundle_with : List ℕ → Line → Model → List Template → Bundle
+abbrev pub bundle_with : List ℕ → Line → Model → List Template → Bundle
 bundle_with title line model templates = record { title = title; line = line; model = model; templates = templates }
 
 pub one_goal_is_bundle : (d : Document) → one_goal_bundle_passes d ≡ true → bundle_of d ≡ bundle (one_goal_bundle d)
@@ -286,7 +286,7 @@ module _ (features types : List (List ℕ)) (n : ℕ) (many : length features �
       let below : place.0 < length features = place.2 in
       subst (λ o. condition (record { name = []; of_type = 0; feature = o }) < suc n) (sym place.1) (omega (arith, below, many))
 
-  known_conditions : (ds : List Document) → list_all (is_thin_element features) ds ≡ true
+  pub known_conditions : (ds : List Document) → list_all (is_thin_element features) ds ≡ true
       → Each (λ x. condition x < suc n) (map (thin_element_in features types) ds)
   known_conditions [] e = tt
   known_conditions (d ∷ ds) e =

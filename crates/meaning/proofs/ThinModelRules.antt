@@ -13,7 +13,7 @@ use Rattle.meaning.specs.ThinForm.{none_in, is_thin_type, is_thin_element, model
 use Rattle.meaning.specs.ThinCases.{thin_type}
 use Rattle.meaning.specs.ThinTests.{empty_or_absent, items_pass, plain_type_passes, kind_passes, element_passes, model_passes}
 use Rattle.meaning.proofs.EmptyLists.{both_true, all_true, with_test, nothing_in, nothing_in_both, nothing_in_flat, nothing_required, nothing_there, all_same, all_by, all_numbered}
-use Rattle.meaning.proofs.ItemRules.{is_formed_item, items_pass_both, items_pass_all, items_are_few, item_faults, item_faults_where, form_of_four, form_of_five}
+use Rattle.meaning.proofs.ItemRules.{is_formed_item, items_pass_both, items_pass_all, items_have_names, items_are_few, item_faults, item_faults_where, form_of_four, form_of_five}
 use Rattle.meaning.proofs.NameTexts.{name_among, name_is_within, name_has_no_fault, place_among}
 use Rattle.meaning.proofs.ThinLineRules.{no_items_no_faults, not_none}
 use Rattle.meaning.proofs.PlainTypes.{absent, empty_list, plain_types, plain_type_names, no_attributes, no_system_type}
@@ -383,6 +383,9 @@ module _ (features : List (List ℕ)) (m : Document) (named : list_all is_name f
   model_is_thin_model =
       with_test (nothing_in (faults_of_context (context_of features m))) (model_is_thin features m) (model_passes features m) where_thin thin_where_passes
 
+sixth : (mt it mk ik me ie l li s : Bool) → ((((((((mt && it) && mk) && ik) && me) && ie) && l) && li) && s) ≡ true → ie ≡ true
+sixth mt it mk ik me ie l li s e = grind (arith, common_steps)
+
 pub few_elements_in : (features : List (List ℕ)) (m : Document) → model_passes features m ≡ true → nat_le (length (list_at (codes "elements") m)) 2048 ≡ true
 few_elements_in features m e =
     items_are_few 2048 (element_passes features (map name_in (list_at (codes "types") m))) (list_at (codes "elements") m)
@@ -390,6 +393,11 @@ few_elements_in features m e =
     (may_have is_list_value (codes "kinds") m) (items_pass 256 (kind_passes (map name_in (list_at (codes "types") m))) (list_at (codes "kinds") m))
     (may_have is_list_value (codes "elements") m) (items_pass 2048 (element_passes features (map name_in (list_at (codes "types") m))) (list_at (codes "elements") m))
     (empty_or_absent (codes "labels") m) (empty_or_absent (codes "links") m) (empty_or_absent (codes "systems") m) e)
-  where
-    sixth : (mt it mk ik me ie l li s : Bool) → ((((((((mt && it) && mk) && ik) && me) && ie) && l) && li) && s) ≡ true → ie ≡ true
-    sixth mt it mk ik me ie l li s e = grind (arith, common_steps)
+
+pub elements_have_names : (features : List (List ℕ)) (m : Document) → model_passes features m ≡ true → list_all is_name (map name_in (list_at (codes "elements") m)) ≡ true
+elements_have_names features m e =
+    items_have_names 2048 (element_passes features (map name_in (list_at (codes "types") m))) (list_at (codes "elements") m)
+    (sixth (may_have is_list_value (codes "types") m) (items_pass 256 plain_type_passes (list_at (codes "types") m))
+    (may_have is_list_value (codes "kinds") m) (items_pass 256 (kind_passes (map name_in (list_at (codes "types") m))) (list_at (codes "kinds") m))
+    (may_have is_list_value (codes "elements") m) (items_pass 2048 (element_passes features (map name_in (list_at (codes "types") m))) (list_at (codes "elements") m))
+    (empty_or_absent (codes "labels") m) (empty_or_absent (codes "links") m) (empty_or_absent (codes "systems") m) e)

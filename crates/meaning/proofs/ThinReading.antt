@@ -110,7 +110,7 @@ goal_is_text (t ∷ []) e = of_nodes (list_at (codes "nodes") t) (passing_templa
     of_nodes (g ∷ []) e = text g e
     of_nodes (g ∷ h ∷ hs) e = absurd (let n : false ≡ true = e in cc)
 
-names_are_proper : (ds : List Document) → features_pass ds ≡ true
+pub names_are_proper : (ds : List Document) → features_pass ds ≡ true
     → (bad_names (map name_in ds) ≡ []) × (length (map name_in ds) ≤ 256)
 names_are_proper [] e = absurd (let n : false ≡ true = e in cc)
 names_are_proper (d ∷ ds) e =

@@ -1,4 +1,4 @@
-use Rattle.std.proofs.Common.{◌≡◌, ◌≢◌, ◌<◌, ◌≤◌, length, get_or, ap, sym, ◌∙◌, arith}
+use Rattle.std.proofs.Common.{◌≡◌, ◌<◌, length, sym, ◌∙◌, arith}
 use Rattle.lifted_case.proofs.ConditionIds.{met_few, met_with-new, met_with-root, met_with-old, id_at, IsFilled-then}
 use Rattle.lifted_case.proofs.conditions.meet.Goals as goal
 use Rattle.lifted_case.proofs.conditions.meet.Goals.{then-place-eq0-via-then-place-eq0, then-place-eq0-via-else-place-eq0+then-ids-place-ne0}
@@ -9,9 +9,9 @@ returns-then-place-eq0-clause-met c =
     let place = c.from-place.result in
     let within : place < length c.args.ids.now = omega arith in
     elim c.then-place-eq0.branch [
-      then-place-eq0-via-then-place-eq0 w ↦ sym (met_with-root met c.args.condition (omega arith))
-    | then-place-eq0-via-else-place-eq0+then-ids-place-ne0 w ↦
-      sym (met_with-old met c.args.condition (λ e. w.if-ids-place-ne0.true (id_at met c.args.ids.now c.args.condition place c.requires.filled c.from-place.ensures within ∙ e)))
+      | then-place-eq0-via-then-place-eq0 w ↦ sym (met_with-root met c.args.condition (omega arith))
+      | then-place-eq0-via-else-place-eq0+then-ids-place-ne0 w ↦
+          sym (met_with-old met c.args.condition (λ e. w.if-ids-place-ne0.true (id_at met c.args.ids.now c.args.condition place c.requires.filled c.from-place.ensures within ∙ e)))
     ]
 
 pub overflow_cast-id : goal.overflow_cast-id

@@ -1,4 +1,4 @@
-use Rattle.std.proofs.Common.{ap, ◌∙◌, arith}
+use Rattle.std.proofs.Common.{ap, arith}
 use Rattle.meaning.specs.CaseBytes.{natural_data}
 use Rattle.meaning.specs.ThinCases.{condition_id}
 use Rattle.lifted_case.proofs.Writing.{AreWritten-next-of}

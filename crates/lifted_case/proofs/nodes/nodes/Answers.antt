@@ -1,4 +1,4 @@
-use Rattle.std.proofs.Common.{ap, ◌∙◌, arith}
+use Rattle.std.proofs.Common.{ap, arith}
 use Rattle.meaning.specs.CaseBytes.{node_data}
 use Rattle.lifted_case.specs.View.{node_of}
 use Rattle.lifted_case.proofs.Writing.{AreWritten-next-of}

@@ -1,4 +1,4 @@
-use Rattle.std.proofs.Common.{List, ℕ, [], ◌∷◌, ◌++◌, ap}
+use Rattle.std.proofs.Common.{List, ℕ, [], ◌∷◌, ap}
 use Rattle.std.specs.Prelude.{codes}
 use Rattle.serde_json.specs.Data.{Data, string}
 use Rattle.meaning.specs.CaseBytes.{natural_data}

@@ -1,4 +1,4 @@
-use Rattle.std.proofs.Common.{ap, ◌∙◌, refl, arith}
+use Rattle.std.proofs.Common.{refl, arith}
 use Rattle.meaning.specs.CaseBytes.{relation_data}
 use Rattle.lifted_case.specs.View.{relation_of}
 use Rattle.lifted_case.proofs.Writing.{AreWritten-next-of}

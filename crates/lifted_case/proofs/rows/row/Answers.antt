@@ -1,4 +1,4 @@
-use Rattle.std.proofs.Common.{ap, ◌∙◌, [], ◌∷◌, refl, sym, subst}
+use Rattle.std.proofs.Common.{[], ◌∷◌, refl, sym, subst}
 use Rattle.meaning.specs.CaseBytes.{natural_data}
 use Rattle.doc_tree.specs.View.{documents}
 use Rattle.lifted_case.specs.Written.{AreWritten}

@@ -1,4 +1,4 @@
-use Rattle.std.proofs.Common.{◌≡◌, ◌+◌, ◌*◌, ◌<◌, [], ◌∷◌, ◌++◌, map, take, length, ap, sym, ◌∙◌, refl, arith}
+use Rattle.std.proofs.Common.{[], ◌∷◌, map, take, ap, refl, arith}
 use Rattle.std.proofs.lemmas.List.{take_all}
 use Rattle.meaning.specs.CaseBytes.{row_data}
 use Rattle.meaning.specs.ThinCases.{root_row, feature_row, feature_rows, thin_table}
