@@ -5,5 +5,7 @@
 #![tactic(auto)]
 
 mod expr;
+mod names;
 
 pub use expr::{Expr, truth};
+pub use names::{NameStop, Names};
