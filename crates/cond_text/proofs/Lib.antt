@@ -1,2 +1,5 @@
 pub mod Values
 pub mod NamePlaces
+pub mod Pieces
+pub mod LexemeLaws
+pub mod WordLaws

@@ -1,2 +1,4 @@
 pub mod View
 pub mod Lists
+pub mod Tokens
+pub mod Lexemes

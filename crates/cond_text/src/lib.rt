@@ -5,7 +5,12 @@
 #![tactic(auto)]
 
 mod expr;
+mod lexeme;
 mod names;
+mod token;
+mod word;
 
 pub use expr::{Expr, truth};
 pub use names::{NameStop, Names};
+pub use lexeme::lexeme_at;
+pub use word::is_name;
