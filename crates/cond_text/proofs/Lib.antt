@@ -3,3 +3,4 @@ pub mod NamePlaces
 pub mod Pieces
 pub mod LexemeLaws
 pub mod WordLaws
+pub mod ScanLaws

@@ -2,3 +2,4 @@ pub mod View
 pub mod Lists
 pub mod Tokens
 pub mod Lexemes
+pub mod Scans

@@ -7,10 +7,11 @@
 mod expr;
 mod lexeme;
 mod names;
+mod scan;
 mod token;
 mod word;
 
 pub use expr::{Expr, truth};
 pub use names::{NameStop, Names};
-pub use lexeme::lexeme_at;
+pub use scan::{ExprStop, scan_text};
 pub use word::is_name;
