@@ -4,3 +4,4 @@ pub mod Pieces
 pub mod LexemeLaws
 pub mod WordLaws
 pub mod ScanLaws
+pub mod PhraseLaws

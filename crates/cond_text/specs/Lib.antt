@@ -3,3 +3,4 @@ pub mod Lists
 pub mod Tokens
 pub mod Lexemes
 pub mod Scans
+pub mod Phrases

@@ -7,11 +7,13 @@
 mod expr;
 mod lexeme;
 mod names;
+mod parser;
 mod scan;
 mod token;
 mod word;
 
 pub use expr::{Expr, truth};
 pub use names::{NameStop, Names};
-pub use scan::{ExprStop, scan_text};
+pub use parser::parse;
+pub use scan::ExprStop;
 pub use word::is_name;
