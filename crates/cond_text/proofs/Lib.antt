@@ -5,3 +5,4 @@ pub mod LexemeLaws
 pub mod WordLaws
 pub mod ScanLaws
 pub mod PhraseLaws
+pub mod PrintedText

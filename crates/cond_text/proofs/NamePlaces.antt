@@ -1,5 +1,5 @@
 -- The place of a name in a list of texts, as a set of keys tells it and as the definitions do.
-use Rattle.std.proofs.Common.{◌≡◌, ◌∙◌, sym, ap, subst, refl, ℕ, zero, suc, ◌+◌, ◌<◌, List, [], ◌∷◌, ◌++◌, length, Bool, true, false, Option, Some, None, slice_get, map, arith}
+use Rattle.std.proofs.Common.{◌≡◌, ◌∙◌, sym, ap, subst, refl, ℕ, zero, suc, ◌+◌, ◌<◌, List, [], ◌∷◌, ◌++◌, length, Bool, true, false, Option, Some, None, slice_get, get_or, map, arith}
 use Rattle.std.specs.Prelude.{option_map, if◌then◌else◌, bytes_eq, nat_lt, not, position}
 use Rattle.std.specs.List.{position_or_len, list_any, IsDistinct, AllByRecursion}
 use Rattle.std.proofs.lemmas.Bool.Decides.{nat_tests}
@@ -7,6 +7,7 @@ use Rattle.std.proofs.lemmas.Bool.{true≢false}
 use Rattle.std.proofs.lemmas.Slice.Eq.{bytes_eq-Decides}
 use Rattle.indexmap.specs.IndexSet.{insert_key}
 use Rattle.std.proofs.lemmas.List.{length-map, map-append}
+use Rattle.std.proofs.lemmas.Option.{slice_get-map, slice_get-get_or}
 use Rattle.meaning.specs.Texts.{place_of}
 
 no_later : (o : Option ℕ) → option_map suc o ≡ None → o ≡ None
@@ -76,3 +77,11 @@ module _ {X : Type 0} (text : X → List ℕ) where
         at ∙ (r.1 ∙ sym (length-map keys text)),
         ap (map text) (becomes ∙ ap (λ b. if b then keys else keys ++ x ∷ []) r.0) ∙ (map-append text keys (x ∷ []) ∙ ap (λ v. map text keys ++ v ∷ []) is),
       )
+
+  -- the text of a key is found at the key's place
+  pub place_of_key : (keys : List X) (number : ℕ) (x : X) → IsDistinct (λ y z. bytes_eq (text y) (text z)) keys → number < length (map text keys)
+      → x ≡ get_or keys number x → place_of (text x) (map text keys) ≡ Some number
+  place_of_key keys number x distinct inside is =
+      let below : number < length keys = subst (λ n. number < n) (length-map keys text) inside in
+      distinct_places keys distinct number (text x)
+      (slice_get-map text keys number ∙ ap (option_map text) (slice_get-get_or keys number x below ∙ ap Some (sym is)))

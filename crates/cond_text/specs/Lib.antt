@@ -4,3 +4,4 @@ pub mod Tokens
 pub mod Lexemes
 pub mod Scans
 pub mod Phrases
+pub mod Printing

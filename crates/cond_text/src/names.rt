@@ -99,11 +99,9 @@ impl Names {
     /// The name with a number.
     pub fn name(&self, no: u16) -> &str
         requires { no < length self.now }
-        ensures { slice_get self.now no ≡ Some result.now }
+        ensures name { slice_get self.now no ≡ Some result.now }
+        ensures place { place_of result.now self.now ≡ Some no }
     {
-        match self.texts.get_index(usize::from(no)) {
-            Some(text) => text.as_str(),
-            None => unreachable!(),
-        }
+        self.texts.as_slice()[usize::from(no)].as_str()
     }
 }
