@@ -1,19 +1,14 @@
 -- What stands at a byte of a text, by its first bytes.
-use Rattle.std.proofs.Common.{◌≡◌, ◌∙◌, sym, ap, subst, refl, ℕ, zero, suc, ◌+◌, ◌-◌, ◌<◌, ◌≤◌, List, [], ◌∷◌, ◌++◌, length, take, drop, get_or, slice_index, slice_range, Bool, true, false, ◌||◌, add-one, Option, Some, None, arith}
-use Rattle.std.specs.Prelude.{◌==◌, if◌then◌else◌, codes, bytes_eq}
-use Rattle.std.specs.List.{list_all, prefix_len}
-use Rattle.std.proofs.lemmas.List.{drop_more, drop-drop, length-take-le}
-use Rattle.std.proofs.lemmas.List.Folds.{drop_split}
-use Rattle.std.proofs.lemmas.List.Sums.{prefix_len-le-length, prefix_len_passes}
-use Rattle.std.proofs.lemmas.Bool.{eqb-true, eqb-false, true≢false}
-use Rattle.std.proofs.lemmas.Bool.Decides.{nat_tests}
-use Rattle.meaning.specs.Texts.{is_letter, is_word_byte, begins_with_letter, is_name, place_of}
-use Rattle.meaning.specs.Expressions.{Piece, run, blank, exclamation, ampersand, pipe, equals, less, greater, opening, closing, sign_of, longer_run, pieces_of, name_at, then_tokens, tokens_of, word as word_token}
-use Rattle.meaning.specs.BundlePlaces.{is_among}
-use Rattle.meaning.specs.ExpressionFaults.{word, stray, word_or_stray, placed_tokens, Next, an_operand, after_operand, goes_on, is_truth_word}
-use Rattle.cond_text.specs.declared.token.Token.TheVariants.{True, False, Name, Implies, Same}
-use Rattle.cond_text.specs.Lexemes.{begins_with, placed_from, tokens_from, StandsAt, IsUnknownAt, IsStrayAt}
-use Rattle.cond_text.proofs.Pieces.{sign_cases, longer, run_pieces, front_passes, goes_on_word}
+use Rattle.std.proofs.Common.{◌≡◌, ◌∙◌, sym, ap, refl, ℕ, zero, suc, ◌+◌, ◌<◌, List, [], ◌∷◌, length, drop, slice_index, Bool, true, false, add-one, arith}
+use Rattle.std.specs.Prelude.{◌==◌, if◌then◌else◌}
+use Rattle.std.proofs.lemmas.List.{drop_more}
+use Rattle.std.proofs.lemmas.Bool.{eqb-true, true≢false}
+use Rattle.meaning.specs.Texts.{is_letter, is_word_byte}
+use Rattle.meaning.specs.Expressions.{equals, less, sign_of, longer_run, pieces_of, tokens_of}
+use Rattle.meaning.specs.ExpressionFaults.{stray, word_or_stray, placed_tokens, Next, an_operand, after_operand, goes_on}
+use Rattle.cond_text.specs.declared.token.Token.TheVariants.{Implies, Same}
+use Rattle.cond_text.specs.Lexemes.{begins_with, placed_from, StandsAt, IsStrayAt}
+use Rattle.cond_text.proofs.Pieces.{sign_cases, longer}
 
 -- ---- the first byte
 
@@ -89,8 +84,8 @@ double_arrow_stands names s at inside is next last =
     let n = next_byte s (at + 1) 61 next in
     let m = next_byte s (at + 2) 62 last in
     let e : drop at s ≡ 60 ∷ 61 ∷ 62 ∷ drop (at + 3) s =
-        first_byte s at 60 inside is ∙ ap (λ cs. 60 ∷ cs) (n.1 ∙ ap (λ cs. 61 ∷ cs) (ap (λ k. drop k s) (let f : at + 1 + 1 ≡ at + 2 = omega arith in f)
-        ∙ (m.1 ∙ ap (λ k. 62 ∷ drop k s) (let f : at + 2 + 1 ≡ at + 3 = omega arith in f)))) in
+    first_byte s at 60 inside is ∙ ap (λ cs. 60 ∷ cs) (n.1 ∙ ap (λ cs. 61 ∷ cs) (ap (λ k. drop k s) (let f : at + 1 + 1 ≡ at + 2 = omega arith in f)
+    ∙ (m.1 ∙ ap (λ k. 62 ∷ drop k s) (let f : at + 2 + 1 ≡ at + 3 = omega arith in f)))) in
     record { beyond = omega arith; within = omega arith; stands = tt; placed = ap (λ cs. placed_tokens at (pieces_of cs)) e; tokens = ap (λ cs. tokens_of (pieces_of cs)) e }
 
 pub no_equals : (s : List ℕ) (at : ℕ) → at < length s → slice_index s at ≡ 60 → begins_with 61 (drop (at + 1) s) ≡ false → IsStrayAt s at
@@ -117,7 +112,7 @@ other_stray s at c inside is n32 n33 n38 n124 n61 n60 n40 n41 no_letter = go (is
     go true e =
         let r = longer c (pieces_of (drop (at + 1) s)) in
         let front : placed_from s at ≡ (at, word_or_stray (c ∷ r.0)) ∷ placed_tokens (at + length (c ∷ r.0)) r.1 =
-            ap (λ us. placed_tokens at (pieces_of us)) (first_byte s at c inside is) ∙ (rw e (ap (placed_tokens at) r.2)) in
+        ap (λ us. placed_tokens at (pieces_of us)) (first_byte s at c inside is) ∙ (rw e (ap (placed_tokens at) r.2)) in
         record { lexeme = stray; others = placed_tokens (at + length (c ∷ r.0)) r.1; placed = front ∙ (rw no_letter refl); stray = stray_stops }
     go false e =
         stray_at s at (c ∷ drop (at + 1) s) (first_byte s at c inside is)

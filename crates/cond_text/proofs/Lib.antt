@@ -6,3 +6,4 @@ pub mod WordLaws
 pub mod ScanLaws
 pub mod PhraseLaws
 pub mod PrintedText
+pub mod NameBounds

@@ -1,6 +1,6 @@
 -- The place of a name in a list of texts, as a set of keys tells it and as the definitions do.
 use Rattle.std.proofs.Common.{◌≡◌, ◌∙◌, sym, ap, subst, refl, ℕ, zero, suc, ◌+◌, ◌<◌, List, [], ◌∷◌, ◌++◌, length, Bool, true, false, Option, Some, None, slice_get, get_or, map, arith}
-use Rattle.std.specs.Prelude.{option_map, if◌then◌else◌, bytes_eq, nat_lt, not, position}
+use Rattle.std.specs.Prelude.{option_map, if◌then◌else◌, bytes_eq, nat_lt, position}
 use Rattle.std.specs.List.{position_or_len, list_any, IsDistinct, AllByRecursion}
 use Rattle.std.proofs.lemmas.Bool.Decides.{nat_tests}
 use Rattle.std.proofs.lemmas.Bool.{true≢false}

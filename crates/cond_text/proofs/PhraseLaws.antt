@@ -1,5 +1,5 @@
 -- Phrases of the grammar between two places of a list of tokens.
-use Rattle.std.proofs.Common.{◌≡◌, ◌∙◌, sym, ap, subst, refl, ℕ, zero, suc, ◌+◌, ◌<◌, ◌≤◌, List, [], ◌∷◌, ◌++◌, length, drop, append_assoc, add-one, true, codes, Some, arith}
+use Rattle.std.proofs.Common.{◌≡◌, ◌∙◌, sym, ap, subst, refl, ℕ, zero, suc, ◌+◌, ◌<◌, ◌≤◌, List, [], ◌∷◌, ◌++◌, length, drop, append_assoc, add-one, Some, arith}
 use Rattle.std.proofs.lemmas.List.{append-nil}
 use Rattle.meaning.specs.Expressions.{Expression, Top, Bottom, Name, Not, Both, Either, Implies, Same, open_paren, close_paren, not_sign, and_sign, or_sign, implies_sign, same_sign, word, name_at, IsSame, of_imp, same, IsImp, of_or, implies, IsOr, of_and, either, IsAnd, of_neg, both, IsNeg, of_atom, negation, named, grouped, always, never, feature, pieces_of, tokens_of, expression_of, expression_of_tokens}
 use Rattle.meaning.specs.Expressions as meaning
@@ -9,8 +9,9 @@ use Rattle.meaning.proofs.ReadsGrammar.{grammar_is_read}
 use Rattle.cond_text.specs.declared.token.Token.{Token}
 use Rattle.cond_text.specs.declared.token.Token.TheVariants as sign
 use Rattle.cond_text.specs.declared.token.Token.TheVariants.{And, Or, Open, Close, End, True, False}
-use Rattle.cond_text.specs.Tokens.{with_word, with_words, Stands, Runs}
-use Rattle.cond_text.specs.Phrases.{first_token, binding, Reads, CanRead, ReadsFrom, IsPhrase}
+use Rattle.cond_text.specs.Tokens.{with_word, with_words, Runs}
+use Rattle.cond_text.specs.Phrases.{first_token, binding, Reads, CanRead, ReadsFrom}
+use Rattle.cond_text.specs.Readings.{IsPhrase}
 
 abbrev Kind : Type 1
 Kind = List (List ℕ) → List meaning.Token → Expression → Type 0
@@ -74,8 +75,8 @@ joined K J L t make pos law m n ts at next after a b left is right names k runs 
       phrase = (
         l.phrase.0 ++ with_word names t ∷ r.phrase.0,
         l.phrase.1 ∙ (ap (λ us. l.phrase.0 ++ with_words names us) f
-          ∙ (ap (λ vs. l.phrase.0 ++ with_word names t ∷ vs) r.phrase.1
-          ∙ sym (append_assoc l.phrase.0 (with_word names t ∷ r.phrase.0) (with_words names (drop after ts))))),
+            ∙ (ap (λ vs. l.phrase.0 ++ with_word names t ∷ vs) r.phrase.1
+            ∙ sym (append_assoc l.phrase.0 (with_word names t ∷ r.phrase.0) (with_words names (drop after ts))))),
         law names l.phrase.0 r.phrase.0 a b l.phrase.2 r.phrase.2,
       );
       runs = r.runs;
@@ -216,7 +217,7 @@ group_reads ts at next a is reads names k runs =
       phrase = (
         open_paren ∷ (us ++ close_paren ∷ []),
         ap (with_words names) g.open_at ∙ ap (λ vs. open_paren ∷ vs) (g.inner.phrase.1 ∙ (ap (λ vs. us ++ with_words names vs) g.close_at
-          ∙ sym (append_assoc us (close_paren ∷ []) (with_words names (drop (next + 1) ts))))),
+            ∙ sym (append_assoc us (close_paren ∷ []) (with_words names (drop (next + 1) ts))))),
         of_atom (grouped g.inner.phrase.2),
       );
       runs = g.runs;

@@ -1,8 +1,8 @@
 -- The pieces of a text: runs of word bytes, and signs.
-use Rattle.std.proofs.Common.{◌≡◌, ◌∙◌, sym, ap, refl, ℕ, zero, suc, ◌+◌, List, [], ◌∷◌, ◌++◌, take, drop, Bool, true, false, ◌&&◌, arith}
+use Rattle.std.proofs.Common.{◌≡◌, ap, refl, ℕ, suc, ◌+◌, List, [], ◌∷◌, ◌++◌, take, drop, Bool, true, false, ◌&&◌, arith}
 use Rattle.std.specs.Prelude.{◌==◌, cond, if◌then◌else◌}
 use Rattle.std.specs.List.{list_all, prefix_len}
-use Rattle.meaning.specs.Texts.{is_letter, is_word_byte}
+use Rattle.meaning.specs.Texts.{is_word_byte}
 use Rattle.meaning.specs.Expressions.{Piece, run, blank, exclamation, ampersand, pipe, equals, less, greater, opening, closing, strange, sign_of, longer_run, pieces_of}
 
 -- what holds of a sign, for each byte that it may be
@@ -15,7 +15,7 @@ sign_cases P c h32 h33 h38 h124 h61 h60 h62 h40 h41 other =
     go : (b32 b33 b38 b124 b61 b60 b62 b40 b41 : Bool) → (c == 32) ≡ b32 → (c == 33) ≡ b33 → (c == 38) ≡ b38 → (c == 124) ≡ b124 → (c == 61) ≡ b61 → (c == 60) ≡ b60
         → (c == 62) ≡ b62 → (c == 40) ≡ b40 → (c == 41) ≡ b41
         → P (if b32 then blank else (if b33 then exclamation else (if b38 then ampersand else (if b124 then pipe else (if b61 then equals
-            else (if b60 then less else (if b62 then greater else (if b40 then opening else (if b41 then closing else strange)))))))))
+        else (if b60 then less else (if b62 then greater else (if b40 then opening else (if b41 then closing else strange)))))))))
     go true b33 b38 b124 b61 b60 b62 b40 b41 e32 e33 e38 e124 e61 e60 e62 e40 e41 = h32 e32
     go false true b38 b124 b61 b60 b62 b40 b41 e32 e33 e38 e124 e61 e60 e62 e40 e41 = h33 e33
     go false false true b124 b61 b60 b62 b40 b41 e32 e33 e38 e124 e61 e60 e62 e40 e41 = h38 e38
@@ -48,6 +48,7 @@ run_pieces c [] rest all ends = rw (first_of all) (alone rest ends)
   where
     first_of : is_word_byte c && true ≡ true → is_word_byte c ≡ true
     first_of e = (both_true (is_word_byte c) true e).0
+
     alone : (rest : List ℕ) → goes_on_word rest ≡ false → longer_run c (pieces_of rest) ≡ run (c ∷ []) ∷ pieces_of rest
     alone [] ends = refl
     alone (d ∷ ds) ends =

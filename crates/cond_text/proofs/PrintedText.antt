@@ -1,17 +1,18 @@
 -- A printed expression reads back.
-use Rattle.std.proofs.Common.{◌≡◌, ◌∙◌, sym, ap, subst, refl, ℕ, zero, suc, ◌+◌, ◌<◌, ◌≤◌, max, List, [], ◌∷◌, ◌++◌, length, append_assoc, Bool, true, false, not, ◌&&◌, Option, Some, None, slice_get, arith}
-use Rattle.std.specs.Prelude.{option_map, option_and_then, if◌then◌else◌, nat_lt, nat_le, codes, unwrap_or}
+use Rattle.std.proofs.Common.{◌≡◌, ◌∙◌, sym, ap, subst, refl, ℕ, zero, suc, ◌+◌, ◌<◌, ◌≤◌, List, [], ◌∷◌, ◌++◌, length, append_assoc, Bool, true, false, ◌&&◌, Option, Some, None, arith}
+use Rattle.std.specs.Prelude.{option_map, if◌then◌else◌, nat_lt, nat_le, codes}
 use Rattle.std.specs.List.{list_all}
 use Rattle.std.proofs.lemmas.List.{append-nil}
-use Rattle.std.proofs.lemmas.Bool.{lt-leb, true≢false}
-use Rattle.meaning.specs.Texts.{is_name, place_of, is_word_byte, begins_with_letter}
+use Rattle.std.proofs.lemmas.Bool.{lt-leb}
+use Rattle.meaning.specs.Texts.{is_name, is_word_byte, begins_with_letter}
 use Rattle.meaning.specs.Expressions.{Expression, Top, Bottom, Name, Not, Both, Either, Implies, Same, Piece, run, blank, exclamation, ampersand, pipe, equals, less, greater, opening, closing, pieces_of, Token, word, not_sign, and_sign, or_sign, implies_sign, same_sign, open_paren, close_paren, then_tokens, tokens_of, name_at, name_bound, strength, in_place, print, IsSame, of_imp, same, IsImp, of_or, implies, IsOr, of_and, either, IsAnd, of_neg, both, IsNeg, of_atom, negation, named, grouped, always, never, feature, expression_of}
 use Rattle.meaning.specs.BundlePlaces.{or_else}
 use Rattle.meaning.specs.ExpressionFaults.{TextFault, TooMany, Syntax, UnknownName, Lexeme, word as word_lexeme, stray, placed_tokens, Next, an_operand, goes_on, is_known, next_after, may_end, fault_from, expression_fault}
 use Rattle.meaning.proofs.GrammarLaw.{map_some}
 use Rattle.meaning.proofs.ExpressionTexts.{lexeme}
 use Rattle.meaning.proofs.ExpressionsPass.{only_too_many, expressions_pass}
-use Rattle.cond_text.specs.Printing.{AllPlaced, IsReadAs}
+use Rattle.cond_text.specs.Printing.{AllPlaced}
+use Rattle.cond_text.specs.Readings.{IsReadAs}
 use Rattle.cond_text.proofs.Pieces.{goes_on_word, run_pieces, both_true}
 use Rattle.cond_text.proofs.PhraseLaws.{phrase_is_read}
 

@@ -1,23 +1,21 @@
 -- The scan of a text for its first fault, step by step.
-use Rattle.std.proofs.Common.{◌≡◌, ◌∙◌, sym, ap, subst, refl, ℕ, zero, suc, ◌+◌, ◌<◌, ◌≤◌, List, [], ◌∷◌, ◌++◌, length, map, drop, append_assoc, Bool, true, false, ◌||◌, Option, Some, None, arith}
+use Rattle.std.proofs.Common.{◌≡◌, ◌∙◌, sym, ap, subst, refl, ℕ, zero, suc, ◌+◌, ◌<◌, ◌≤◌, List, [], ◌∷◌, ◌++◌, length, append_assoc, Bool, true, false, ◌||◌, Option, Some, None, arith}
 use Rattle.std.specs.Prelude.{option_map, if◌then◌else◌, bytes_eq, nat_le}
 use Rattle.std.proofs.Math.ListN.{drop_of_length-le}
 use Rattle.std.proofs.lemmas.List.{map-append, append-nil}
 use Rattle.std.proofs.lemmas.Bool.{lt-leb}
 use Rattle.meaning.specs.Texts.{is_name, place_of}
-use Rattle.meaning.specs.Expressions.{name_at, pieces_of, tokens_of, then_tokens}
-use Rattle.meaning.specs.Expressions as meaning
+use Rattle.meaning.specs.Expressions.{name_at, pieces_of, tokens_of}
 use Rattle.meaning.specs.BundlePlaces.{is_among, or_else}
-use Rattle.meaning.specs.ExpressionFaults.{TextFault, TooMany, Syntax, UnknownName, word, placed_tokens, Next, an_operand, after_operand, is_truth_word, goes_on, next_after, is_known, may_end, fault_from, expression_fault}
-use Rattle.meaning.specs.ExpressionFaults as faults
+use Rattle.meaning.specs.ExpressionFaults.{TextFault, TooMany, Syntax, UnknownName, placed_tokens, Next, an_operand, after_operand, is_truth_word, goes_on, next_after, is_known, may_end, fault_from, expression_fault}
 use Rattle.meaning.proofs.ExpressionTexts.{lexeme}
 use Rattle.cond_text.specs.declared.token.Token.{Token}
-use Rattle.cond_text.specs.declared.token.Token.TheVariants.{True, False, Name, Not, And, Or, Implies, Same, Open, Close, End}
+use Rattle.cond_text.specs.declared.token.Token.TheVariants.{True, False, Name, Not, And, Or, Implies, Same, Open, Close}
 use Rattle.cond_text.specs.declared.scan.ExprStop.{ExprStop}
-use Rattle.cond_text.specs.declared.scan.ExprStop.TheVariants as stops
 use Rattle.cond_text.specs.Tokens.{with_word, with_words, Stands, follow, Runs}
 use Rattle.cond_text.specs.Lexemes.{placed_from, tokens_from, StandsAt, IsBlankAt, IsUnknownAt}
-use Rattle.cond_text.specs.Scans.{opened_in, capped, Tells, StopsAt, unknown_stop}
+use Rattle.cond_text.specs.Scans.{opened_in, StopsAt, unknown_stop}
+use Rattle.cond_text.specs.Stops.{Tells}
 
 -- ---- one token
 
@@ -43,9 +41,11 @@ pub follow_goes : (names : List (List ℕ)) (next : Next) (t : Token) (n : Next)
     → (goes_on next (lexeme (with_word names t)) ≡ true) × (is_known names (lexeme (with_word names t)) ≡ true) × (next_after next (lexeme (with_word names t)) ≡ n)
 follow_goes names (an_operand k) True n st e = (refl, refl, same_some e)
 follow_goes names (an_operand k) False n st e = (refl, refl, same_some e)
-follow_goes names (an_operand k) (Name m) n st e =
-    (or_right (is_truth_word (name_at names m)) (is_name (name_at names m)) st.0,
-     or_right (is_truth_word (name_at names m)) (is_among names (name_at names m)) (among_if names (name_at names m) m st.1), same_some e)
+follow_goes names (an_operand k) (Name m) n st e = (
+  or_right (is_truth_word (name_at names m)) (is_name (name_at names m)) st.0,
+  or_right (is_truth_word (name_at names m)) (is_among names (name_at names m)) (among_if names (name_at names m) m st.1),
+  same_some e,
+)
 follow_goes names (an_operand k) Not n st e = (refl, refl, same_some e)
 follow_goes names (an_operand k) Open n st e = (refl, refl, same_some e)
 follow_goes names (after_operand k) And n st e = (refl, refl, same_some e)
@@ -146,12 +146,12 @@ pub scan_takes : (names : List (List ℕ)) (s : List ℕ) (at count : ℕ) (next
 scan_takes names s at count next tokens t end n h st less e =
     let g = follow_goes names next t n st.stands e in record {
       fault = h.fault ∙ (ap (fault_from names (length s) count next) st.placed
-        ∙ (no_fault_here (nat_le 512 count) (goes_on next (lexeme (with_word names t))) (is_known names (lexeme (with_word names t))) at
+          ∙ (no_fault_here (nat_le 512 count) (goes_on next (lexeme (with_word names t))) (is_known names (lexeme (with_word names t))) at
           (fault_from names (length s) (count + 1) (next_after next (lexeme (with_word names t))) (placed_from s end)) (lt-leb 512 count less) g.0 g.1
-        ∙ ap (λ m. fault_from names (length s) (count + 1) m (placed_from s end)) g.2));
+          ∙ ap (λ m. fault_from names (length s) (count + 1) m (placed_from s end)) g.2));
       tokens = h.tokens ∙ (ap (option_map (λ us. with_words names tokens ++ us)) st.tokens
-        ∙ (tokens_go_on (with_words names tokens) (with_word names t) (tokens_from s end)
-        ∙ ap (λ ws. option_map (λ us. ws ++ us) (tokens_from s end)) (sym (map-append (with_word names) tokens (t ∷ [])))));
+          ∙ (tokens_go_on (with_words names tokens) (with_word names t) (tokens_from s end)
+          ∙ ap (λ ws. option_map (λ us. ws ++ us) (tokens_from s end)) (sym (map-append (with_word names) tokens (t ∷ [])))));
       runs = λ ts r. subst (Runs names (an_operand 0)) (sym (append_assoc tokens (t ∷ []) ts)) (h.runs (t ∷ ts) (follow_runs names next t n ts st.stands e r));
       opened = follow_opened next t n count e h.opened;
       few = omega arith;
@@ -178,8 +178,8 @@ pub scan_ends : (names : List (List ℕ)) (s : List ℕ) (at count : ℕ) (next 
     → may_end next ≡ true → Done names s tokens
 scan_ends names s at count next tokens h past closed = record {
   no_fault = h.fault ∙ (ap (λ us. fault_from names (length s) count next (placed_tokens at (pieces_of us))) (drop_of_length-le s past)
-    ∙ ap (λ b. if b then None else Some (Syntax (length s))) closed);
+      ∙ ap (λ b. if b then None else Some (Syntax (length s))) closed);
   tokens = h.tokens ∙ (ap (λ us. option_map (λ ts. with_words names tokens ++ ts) (tokens_of (pieces_of us))) (drop_of_length-le s past)
-    ∙ ap Some (append-nil (with_words names tokens)));
+      ∙ ap Some (append-nil (with_words names tokens)));
   runs = subst (Runs names (an_operand 0)) (append-nil tokens) (h.runs [] closed);
 }

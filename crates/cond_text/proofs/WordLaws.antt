@@ -1,12 +1,11 @@
 -- What a word in a text stands for.
-use Rattle.std.proofs.Common.{◌≡◌, ◌∙◌, sym, ap, subst, refl, ℕ, zero, suc, ◌+◌, ◌-◌, ◌<◌, ◌≤◌, List, [], ◌∷◌, ◌++◌, length, take, drop, get_or, slice_index, slice_range, Bool, true, false, ◌&&◌, ◌||◌, Option, Some, None, slice_get, arith, length-drop}
-use Rattle.std.specs.Prelude.{◌==◌, nat_le, if◌then◌else◌, codes, bytes_eq, option_map, unwrap_or}
+use Rattle.std.proofs.Common.{◌≡◌, ◌∙◌, sym, ap, subst, refl, ℕ, zero, suc, ◌+◌, ◌-◌, ◌<◌, ◌≤◌, List, [], ◌∷◌, ◌++◌, length, take, drop, get_or, slice_index, slice_range, Bool, true, false, ◌||◌, Option, Some, None, arith, length-drop}
+use Rattle.std.specs.Prelude.{if◌then◌else◌, codes, bytes_eq, option_map}
 use Rattle.std.specs.Str.{IsUtf8}
 use Rattle.std.proofs.Math.Seq.{take-length}
-use Rattle.std.specs.List.{list_all, list_any, prefix_len}
+use Rattle.std.specs.List.{list_all, prefix_len}
 use Rattle.std.proofs.lemmas.List.{drop-drop, length-take-le, take-append-drop, get_or-drop}
 use Rattle.std.proofs.lemmas.List.Sums.{prefix_len-le-length, prefix_len_passes}
-use Rattle.std.proofs.lemmas.Bool.{true≢false}
 use Rattle.std.proofs.lemmas.Bool.Decides.{nat_tests}
 use Rattle.std.proofs.lemmas.Slice.Eq.{bytes_eq-Decides}
 use Rattle.std.proofs.lemmas.Str.{lead_after_ascii}
@@ -37,8 +36,8 @@ pub run_count : (s : List ℕ) (at n : ℕ) → at < length s → is_letter (sli
     → (n ≡ suc (prefix_len is_word_byte (drop (at + 1) s))) × (at + n ≤ length s)
 run_count s at n inside letter count =
     let e : n ≡ suc (prefix_len is_word_byte (drop (at + 1) s)) =
-        count ∙ (ap (prefix_len is_word_byte) (first_byte s at (slice_index s at) inside refl)
-        ∙ (rw (word_byte (slice_index s at) letter) (let f : 1 + prefix_len is_word_byte (drop (at + 1) s) ≡ suc (prefix_len is_word_byte (drop (at + 1) s)) = omega arith in f))) in
+    count ∙ (ap (prefix_len is_word_byte) (first_byte s at (slice_index s at) inside refl)
+    ∙ (rw (word_byte (slice_index s at) letter) (let f : 1 + prefix_len is_word_byte (drop (at + 1) s) ≡ suc (prefix_len is_word_byte (drop (at + 1) s)) = omega arith in f))) in
     let l = prefix_len-le-length is_word_byte (drop (at + 1) s) in
     let d = length-drop (at + 1) s in
     (e, omega arith)
@@ -65,7 +64,7 @@ word_there s at n w inside letter count is =
           within = within;
           letter = ap begins_with_letter word_is ∙ is_l;
           pieces = ap pieces_of (first ∙ ap (λ us. c ∷ us) (sym front)) ∙ (run_pieces c (take m cs) (drop m cs) all ends
-            ∙ (ap (λ v. run v ∷ pieces_of (drop m cs)) (sym word_is) ∙ ap (λ us. run w ∷ pieces_of us) (sym rest_is)));
+              ∙ (ap (λ v. run v ∷ pieces_of (drop m cs)) (sym word_is) ∙ ap (λ us. run w ∷ pieces_of us) (sym rest_is)));
           long = omega arith;
         }
 

@@ -1,5 +1,5 @@
 -- Lists of distinct names.
-use Rattle.std.specs.Prelude.{◌≡◌, ℕ, ◌<◌, List, length, Option, Some, None, slice_get}
+use Rattle.std.specs.Prelude.{◌≡◌, ℕ, List, Option, Some, None, slice_get}
 use Rattle.meaning.specs.Texts.{place_of}
 use Rattle.cond_text.specs.declared.names.NameStop.{NameStop}
 use Rattle.cond_text.specs.declared.names.NameStop.TheVariants.{Repeated, NoMemory}

@@ -1,6 +1,6 @@
 -- Phrases of the grammar in tokens of the code.
-use Rattle.std.specs.Prelude.{◌≡◌, ℕ, ◌<◌, List, [], ◌∷◌, drop, Some}
-use Rattle.meaning.specs.Expressions.{Expression, pieces_of, tokens_of, IsSame}
+use Rattle.std.specs.Prelude.{ℕ, ◌<◌, List, [], ◌∷◌, drop}
+use Rattle.meaning.specs.Expressions.{Expression}
 use Rattle.meaning.specs.Expressions as meaning
 use Rattle.meaning.specs.ExpressionFaults.{an_operand, after_operand}
 use Rattle.meaning.proofs.GrammarLaw.{Begins}
@@ -34,7 +34,3 @@ CanRead tokens at = (names : List (List ℕ)) × (opened : ℕ) × Runs names (a
 abbrev pub ReadsFrom : (List (List ℕ) → List meaning.Token → Expression → Type 0) → ℕ → List Token → ℕ → ℕ → Expression → Type 0
 ReadsFrom K level tokens at next e =
     (names : List (List ℕ)) (opened : ℕ) → Runs names (an_operand opened) (drop at tokens) → Reads (K names) level names opened (drop at tokens) (drop next tokens) e
-
--- the tokens of the text are an expression of the grammar, with this tree
-abbrev pub IsPhrase : List (List ℕ) → List ℕ → Expression → Type 0
-IsPhrase names s e = (tokens : List meaning.Token) × (tokens_of (pieces_of s) ≡ Some tokens) × IsSame names tokens e

@@ -1,19 +1,15 @@
--- The scan of a text for its first fault, in the words of the definitions.
-use Rattle.std.specs.Prelude.{◌≡◌, ℕ, ◌+◌, ◌<◌, ◌≤◌, min, List, Option, Some, None}
-use Rattle.meaning.specs.ExpressionFaults.{TextFault, Next, an_operand, after_operand, fault_from}
-use Rattle.meaning.specs.ExpressionFaults as faults
+-- One step of the scan of a text, in the words of the definitions.
+use Rattle.std.specs.Prelude.{◌≡◌, ℕ, ◌<◌, List, Some}
+use Rattle.meaning.specs.ExpressionFaults.{Next, an_operand, after_operand, fault_from}
 use Rattle.cond_text.specs.declared.scan.Next.{Next as CodeNext}
 use Rattle.cond_text.specs.declared.scan.Next.TheVariants.{Operand, AfterOperand}
 use Rattle.cond_text.specs.declared.scan.Step.{Step}
 use Rattle.cond_text.specs.declared.scan.Step.TheVariants.{Blank, Token}
 use Rattle.cond_text.specs.declared.scan.ExprStop.{ExprStop}
-use Rattle.cond_text.specs.declared.scan.ExprStop.TheVariants.{Syntax, UnknownName, TooMany, NoMemory}
+use Rattle.cond_text.specs.declared.scan.ExprStop.TheVariants.{Syntax, UnknownName}
 use Rattle.cond_text.specs.Tokens.{follow}
 use Rattle.cond_text.specs.Lexemes.{placed_from, StandsAt, IsBlankAt}
-
--- a place as it is told
-abbrev pub capped : ℕ → ℕ
-capped at = min at 4294967295
+use Rattle.cond_text.specs.Stops.{capped, Tells}
 
 abbrev pub next_of : CodeNext → Next
 next_of (Operand k) = an_operand k
@@ -22,13 +18,6 @@ next_of (AfterOperand k) = after_operand k
 abbrev pub opened_in : Next → ℕ
 opened_in (an_operand k) = k
 opened_in (after_operand k) = k
-
--- the fault is the one that is told, at its place
-abbrev pub Tells : ExprStop → Option TextFault → Type 0
-Tells (Syntax told) fault = (at : ℕ) × (fault ≡ Some (faults.Syntax at)) × (told ≡ capped at)
-Tells (UnknownName told) fault = (at : ℕ) × (fault ≡ Some (faults.UnknownName at)) × (told ≡ capped at)
-Tells (TooMany told) fault = (at : ℕ) × (fault ≡ Some (faults.TooMany at)) × (told ≡ capped at)
-Tells NoMemory fault = Unit {0}
 
 -- the byte has no fault: what stands there, and what may come then
 abbrev pub Steps : List (List ℕ) → List ℕ → ℕ → ℕ → Next → Step → Type 0

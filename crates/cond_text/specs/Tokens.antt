@@ -1,5 +1,5 @@
 -- The tokens of the code in the words of the definitions.
-use Rattle.std.specs.Prelude.{◌≡◌, ℕ, zero, suc, ◌+◌, List, [], ◌∷◌, map, true, Option, Some, None, codes}
+use Rattle.std.specs.Prelude.{◌≡◌, ℕ, suc, ◌+◌, List, [], ◌∷◌, map, true, Option, Some, None, codes}
 use Rattle.meaning.specs.Texts.{is_name, place_of}
 use Rattle.meaning.specs.Expressions.{name_at, word, not_sign, and_sign, or_sign, implies_sign, same_sign, open_paren, close_paren}
 use Rattle.meaning.specs.Expressions as meaning

@@ -1,11 +1,12 @@
 //! Expressions from tokens without a fault.
 
 ghost use Rattle.std.specs.Prelude.{◌≡◌, ◌<◌, ◌≤◌, length, drop, Some, None, IfOk, IfErr};
-ghost use Rattle.meaning.specs.Expressions.{IsSame, IsImp, IsOr, IsAnd, IsNeg, expression_of};
+ghost use Rattle.meaning.specs.Expressions.{IsSame, IsImp, IsOr, IsAnd, IsNeg, name_bound, expression_of};
 ghost use Rattle.meaning.specs.ExpressionFaults.{expression_fault};
 ghost use Rattle.cond_text.specs.View.{expression};
-ghost use Rattle.cond_text.specs.Phrases.{first_token, CanRead, ReadsFrom, IsPhrase};
-ghost use Rattle.cond_text.specs.Scans.{Tells};
+ghost use Rattle.cond_text.specs.Phrases.{first_token, CanRead, ReadsFrom};
+ghost use Rattle.cond_text.specs.Readings.{IsPhrase};
+ghost use Rattle.cond_text.specs.Stops.{Tells};
 
 use crate::expr::Expr;
 use crate::names::Names;
@@ -52,8 +53,11 @@ fn parse_imp(alloc: Global, tokens: &[Token], at: usize) -> Result<(Expr, usize)
     let (left, next) = parse_or(alloc, tokens, at)?;
     match token_at(tokens, next) {
         Token::Implies => {
-            let (right, after) = parse_imp(alloc, tokens, next + 1)?;
-            Ok((Expr::Implies(Box::new(alloc, left)?, Box::new(alloc, right)?), after))
+            let (consequence, after) = parse_imp(alloc, tokens, next + 1)?;
+            Ok((
+                Expr::Implies(Box::new(alloc, left)?, Box::new(alloc, consequence)?),
+                after,
+            ))
         }
         _ => Ok((left, next)),
     }
@@ -125,6 +129,7 @@ fn parse_neg(alloc: Global, tokens: &[Token], at: usize) -> Result<(Expr, usize)
 pub fn parse(alloc: Global, text: &str, names: &Names) -> Result<Expr, ExprStop>
     ensures read { IfOk result (λ e. expression_of names.now text.now ≡ Some (expression e)) }
     ensures phrase { IfOk result (λ e. IsPhrase names.now text.now (expression e)) }
+    ensures names { IfOk result (λ e. name_bound (expression e) ≤ length names.now) }
     ensures no_fault { IfOk result (λ e. expression_fault names.now text.now ≡ None) }
     ensures fault { IfErr result (λ stop. Tells stop (expression_fault names.now text.now)) }
 {

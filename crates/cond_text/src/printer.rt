@@ -4,7 +4,8 @@ ghost use Rattle.std.specs.Prelude.{◌≡◌, ◌++◌, ◌≤◌, length, IfOk
 ghost use Rattle.meaning.specs.Expressions.{name_bound, in_place};
 ghost use Rattle.meaning.specs.Expressions as meaning;
 ghost use Rattle.cond_text.specs.View.{expression};
-ghost use Rattle.cond_text.specs.Printing.{AllPlaced, ReadsBack};
+ghost use Rattle.cond_text.specs.Printing.{AllPlaced};
+ghost use Rattle.cond_text.specs.Readings.{ReadsBack};
 
 use crate::expr::Expr;
 use crate::names::Names;

@@ -4,7 +4,8 @@ ghost use Rattle.std.specs.Prelude.{◌≡◌, ◌+◌, ◌<◌, ◌≤◌, leng
 ghost use Rattle.meaning.specs.Expressions as meaning;
 ghost use Rattle.meaning.specs.ExpressionFaults.{an_operand, may_end, expression_fault};
 ghost use Rattle.cond_text.specs.Tokens.{follow, with_words, Runs};
-ghost use Rattle.cond_text.specs.Scans.{next_of, opened_in, capped, Tells, Steps, StopsAt, unknown_stop};
+ghost use Rattle.cond_text.specs.Scans.{next_of, opened_in, Steps, StopsAt, unknown_stop};
+ghost use Rattle.cond_text.specs.Stops.{capped, Tells};
 ghost use Rattle.cond_text.specs.declared.scan.ExprStop.TheVariants.{NoMemory};
 
 use crate::lexeme::{Lexeme, lexeme_at};
@@ -26,6 +27,7 @@ pub enum ExprStop {
 
 impl From<AllocError> for ExprStop {
     ghost from_gives = { λ e stop. stop ≡ NoMemory };
+
     fn from(_: AllocError) -> ExprStop {
         ExprStop::NoMemory
     }
@@ -33,6 +35,7 @@ impl From<AllocError> for ExprStop {
 
 impl<T: Drop> From<AllocFailed<T>> for ExprStop {
     ghost from_gives = { λ e stop. stop ≡ NoMemory };
+
     fn from(_: AllocFailed<T>) -> ExprStop {
         ExprStop::NoMemory
     }
@@ -102,7 +105,13 @@ fn unknown(next: Next, at: usize) -> ExprStop
 }
 
 /// What stands at a byte behind `count` tokens, or its fault.
-fn next_step(text: &str, at: usize, names: &Names, count: usize, next: Next) -> Result<Step, ExprStop>
+fn next_step(
+    text: &str,
+    at: usize,
+    names: &Names,
+    count: usize,
+    next: Next,
+) -> Result<Step, ExprStop>
     requires inside { at < length text.now }
     requires count { count ≤ 512 }
     requires opened { opened_in (next_of next) ≤ count }

@@ -10,7 +10,7 @@ returns-then-is_at-2 c =
 
 pub returns-else-is_at : goal.returns-else-is_at
 returns-else-is_at c = elim c.else-is_at.branch [
-  else-is_at-via-then-is_at+else-is_at-2 w ↦
-    no_double_arrow c.args.text.now c.args.at c.requires.inside c.requires.less (sym c.is_at.ensures ∙ w.if-is_at.true) (sym w.is_at-then-is_at.ensures ∙ w.if-is_at-2.false) |
-  else-is_at-via-else-is_at w ↦ no_equals c.args.text.now c.args.at c.requires.inside c.requires.less (sym c.is_at.ensures ∙ w.if-is_at.false)
+  | else-is_at-via-then-is_at+else-is_at-2 w ↦
+      no_double_arrow c.args.text.now c.args.at c.requires.inside c.requires.less (sym c.is_at.ensures ∙ w.if-is_at.true) (sym w.is_at-then-is_at.ensures ∙ w.if-is_at-2.false)
+  | else-is_at-via-else-is_at w ↦ no_equals c.args.text.now c.args.at c.requires.inside c.requires.less (sym c.is_at.ensures ∙ w.if-is_at.false)
 ]

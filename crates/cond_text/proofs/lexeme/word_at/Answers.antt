@@ -1,9 +1,5 @@
-use Rattle.std.proofs.Common.{◌≡◌, ◌∙◌, ◌+◌, sym, ap, true, false, drop, arith}
-use Rattle.std.specs.Prelude.{not}
-use Rattle.std.specs.List.{prefix_len}
-use Rattle.std.proofs.lemmas.Bool.{not-true, not-false}
-use Rattle.meaning.specs.Texts.{is_word_byte}
-use Rattle.cond_text.proofs.WordLaws.{WordAt, count_of_rest, run_count, ends_at_boundary, word_there, true_stands, false_stands, name_stands, improper_stray, unknown_there}
+use Rattle.std.proofs.Common.{◌∙◌, ◌+◌, sym, arith}
+use Rattle.cond_text.proofs.WordLaws.{count_of_rest, run_count, ends_at_boundary, word_there, true_stands, false_stands, name_stands, improper_stray, unknown_there}
 use Rattle.cond_text.proofs.lexeme.word_at.Goals as goal
 
 pub overflow_add-end : goal.overflow_add-end
@@ -13,9 +9,10 @@ overflow_add-end c =
 
 pub range-word-requires-clause-end_boundary : goal.range-word-requires-clause-end_boundary
 range-word-requires-clause-end_boundary c =
-    let count = count_of_rest c.as_bytes.result.now c.args.text.now c.args.at c.run_len.result c.as_bytes.ensures.value c.run_len.ensures in
-    ((run_count c.args.text.now c.args.at c.run_len.result c.requires.inside c.requires.letter count).1,
-     ends_at_boundary c.args.text.now c.args.at c.run_len.result c.utf8.text c.requires.inside c.requires.letter count)
+    let count = count_of_rest c.as_bytes.result.now c.args.text.now c.args.at c.run_len.result c.as_bytes.ensures.value c.run_len.ensures in (
+      (run_count c.args.text.now c.args.at c.run_len.result c.requires.inside c.requires.letter count).1,
+      ends_at_boundary c.args.text.now c.args.at c.run_len.result c.utf8.text c.requires.inside c.requires.letter count,
+    )
 
 pub returns-then-eq : goal.returns-then-eq
 returns-then-eq c =

@@ -1,4 +1,4 @@
-use Rattle.std.proofs.Common.{rules, ◌∙◌, sym, arith, ◌+◌}
+use Rattle.std.proofs.Common.{◌∙◌, sym, arith}
 use Rattle.meaning.specs.Expressions.{IsSame, IsOr, IsAnd}
 use Rattle.cond_text.specs.declared.token.Token.TheVariants.{And, Or, Implies, Same}
 use Rattle.cond_text.specs.View.{expression}
@@ -15,7 +15,7 @@ parse_and-ands-init t c = record {
 pub parse_and-parse_neg-requires-in-And : goal.parse_and-parse_neg-requires-in-And
 parse_and-parse_neg-requires-in-And t c =
     let can = can_after_operator IsAnd 5 c.args.tokens.now c.args.at c.ands.next (expression c.ands.left) And (omega arith) c.requires.goes c.ands.invariant.phrase
-      (sym c.token_at.ensures ∙ c.in-And.is) in
+    (sym c.token_at.ensures ∙ c.in-And.is) in
     (omega arith, can)
 
 pub parse_and-ands-preserved : goal.parse_and-ands-preserved
@@ -23,8 +23,8 @@ parse_and-ands-preserved t c = record {
   next = omega (arith, c.in_ok-right.ensures.next);
   within = c.in_ok-right.ensures.within;
   phrase = rw (c.in_ok-new.ensures.ok, c.in_ok-new-2.ensures.ok)
-    (both_reads c.args.tokens.now c.args.at c.ands.next c.in_ok-right.after (expression c.ands.left) (expression c.in_ok-right.right) c.ands.invariant.phrase
-    (sym c.token_at.ensures ∙ c.in-And.is) c.in_ok-right.ensures.phrase);
+      (both_reads c.args.tokens.now c.args.at c.ands.next c.in_ok-right.after (expression c.ands.left) (expression c.in_ok-right.right) c.ands.invariant.phrase
+      (sym c.token_at.ensures ∙ c.in-And.is) c.in_ok-right.ensures.phrase);
 }
 
 pub parse_or-ors-init : goal.parse_or-ors-init
@@ -37,7 +37,7 @@ parse_or-ors-init t c = record {
 pub parse_or-parse_and-requires-in-Or : goal.parse_or-parse_and-requires-in-Or
 parse_or-parse_and-requires-in-Or t c =
     let can = can_after_operator IsOr 4 c.args.tokens.now c.args.at c.ors.next (expression c.ors.left) Or (omega arith) c.requires.goes c.ors.invariant.phrase
-      (sym c.token_at.ensures ∙ c.in-Or.is) in
+    (sym c.token_at.ensures ∙ c.in-Or.is) in
     (omega arith, can)
 
 pub parse_or-ors-preserved : goal.parse_or-ors-preserved
@@ -45,8 +45,8 @@ parse_or-ors-preserved t c = record {
   next = omega (arith, c.in_ok-right.ensures.next);
   within = c.in_ok-right.ensures.within;
   phrase = rw (c.in_ok-new.ensures.ok, c.in_ok-new-2.ensures.ok)
-    (either_reads c.args.tokens.now c.args.at c.ors.next c.in_ok-right.after (expression c.ors.left) (expression c.in_ok-right.right) c.ors.invariant.phrase
-    (sym c.token_at.ensures ∙ c.in-Or.is) c.in_ok-right.ensures.phrase);
+      (either_reads c.args.tokens.now c.args.at c.ors.next c.in_ok-right.after (expression c.ors.left) (expression c.in_ok-right.right) c.ors.invariant.phrase
+      (sym c.token_at.ensures ∙ c.in-Or.is) c.in_ok-right.ensures.phrase);
 }
 
 pub parse_same-sames-init : goal.parse_same-sames-init
@@ -59,7 +59,7 @@ parse_same-sames-init t c = record {
 pub parse_same-parse_imp-requires-in-Same : goal.parse_same-parse_imp-requires-in-Same
 parse_same-parse_imp-requires-in-Same t c =
     let can = can_after_operator IsSame 2 c.args.tokens.now c.args.at c.sames.next (expression c.sames.left) Same (omega arith) c.requires.goes c.sames.invariant.phrase
-      (sym c.token_at.ensures ∙ c.in-Same.is) in
+    (sym c.token_at.ensures ∙ c.in-Same.is) in
     (omega arith, can)
 
 pub parse_same-sames-preserved : goal.parse_same-sames-preserved
@@ -67,21 +67,21 @@ parse_same-sames-preserved t c = record {
   next = omega (arith, c.in_ok-right.ensures.next);
   within = c.in_ok-right.ensures.within;
   phrase = rw (c.in_ok-new.ensures.ok, c.in_ok-new-2.ensures.ok)
-    (same_reads c.args.tokens.now c.args.at c.sames.next c.in_ok-right.after (expression c.sames.left) (expression c.in_ok-right.right) c.sames.invariant.phrase
-    (sym c.token_at.ensures ∙ c.in-Same.is) c.in_ok-right.ensures.phrase);
+      (same_reads c.args.tokens.now c.args.at c.sames.next c.in_ok-right.after (expression c.sames.left) (expression c.in_ok-right.right) c.sames.invariant.phrase
+      (sym c.token_at.ensures ∙ c.in-Same.is) c.in_ok-right.ensures.phrase);
 }
 
 pub parse_imp-parse_imp-requires : goal.parse_imp-parse_imp-requires
 parse_imp-parse_imp-requires t c =
     let can = can_after_operator IsOr 3 c.args.tokens.now c.args.at c.in_ok-left.next (expression c.in_ok-left.left) Implies (omega arith) c.requires.goes c.in_ok-left.ensures.phrase
-      (sym c.token_at.ensures ∙ c.in-Implies.is) in
+    (sym c.token_at.ensures ∙ c.in-Implies.is) in
     (omega (arith, c.in_ok-left.ensures.next), can)
 
 pub parse_imp-returns-in_ok-new-in-Implies-2-clause-phrase : goal.parse_imp-returns-in_ok-new-in-Implies-2-clause-phrase
 parse_imp-returns-in_ok-new-in-Implies-2-clause-phrase t c =
     rw (c.in_ok-new-in-Implies.ensures.ok, c.in_ok-new-in-Implies-2.ensures.ok)
-    (implies_reads c.args.tokens.now c.args.at c.in_ok-left.next c.in_ok-right-in-Implies.after (expression c.in_ok-left.left) (expression c.in_ok-right-in-Implies.right)
-    c.in_ok-left.ensures.phrase (sym c.token_at.ensures ∙ c.in-Implies.is) c.in_ok-right-in-Implies.ensures.phrase)
+    (implies_reads c.args.tokens.now c.args.at c.in_ok-left.next c.in_ok-consequence-in-Implies.after (expression c.in_ok-left.left) (expression c.in_ok-consequence-in-Implies.consequence)
+    c.in_ok-left.ensures.phrase (sym c.token_at.ensures ∙ c.in-Implies.is) c.in_ok-consequence-in-Implies.ensures.phrase)
 
 pub parse_imp-returns-in_default : goal.parse_imp-returns-in_default
 parse_imp-returns-in_default t c = record {

@@ -1,4 +1,4 @@
-use Rattle.std.proofs.Common.{◌∙◌, sym, ap}
+use Rattle.std.proofs.Common.{◌∙◌, sym}
 use Rattle.std.specs.Prelude.{string_bytes}
 use Rattle.cond_text.proofs.NamePlaces.{position_is_place}
 use Rattle.cond_text.proofs.names.Names.find.Goals as goal
