@@ -3,9 +3,8 @@
 
 use outside::{FileShelf, StreamSink};
 use std::alloc::Global;
-use std::env;
-use std::io;
 use std::process::ExitCode;
+use std::{env, io};
 use workbench::{Status, run};
 
 /// The words of the command line, the program's name first.

@@ -17,7 +17,13 @@ use lifted_case::write_thin;
 use std::alloc::Global;
 
 /// The one rule that is answered: the file is a document with a table at the top.
-const NO_TABLE: BundleFault = BundleFault { rule: 1, part: Part::Document, item: 0, sub: 0, at: 0 };
+const NO_TABLE: BundleFault = BundleFault {
+    rule: 1,
+    part: Part::Document,
+    item: 0,
+    sub: 0,
+    at: 0,
+};
 
 /// The case of the bundle in a file of this name, or why there is none.
 pub fn build(alloc: Global, name: &str, bytes: &[u8]) -> Result<Vec<u8>, Status>

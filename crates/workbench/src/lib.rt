@@ -12,8 +12,5 @@ mod thin_model;
 mod top;
 mod words;
 
-
-
 pub use status::Status;
-
 pub use top::run;

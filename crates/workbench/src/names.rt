@@ -50,7 +50,9 @@ fn is_reserved(text: &str) -> bool
 pub fn is_text(text: &str) -> bool
     ensures { result ≡ texts.is_text text.now }
 {
-    text.as_bytes().iter().all(|byte| 32 <= *byte && *byte != 127)
+    text.as_bytes()
+        .iter()
+        .all(|byte| 32 <= *byte && *byte != 127)
 }
 
 /// Whether the text has no control character and at most so many bytes.

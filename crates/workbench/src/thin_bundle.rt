@@ -31,7 +31,10 @@ pub fn is_one_goal_bundle(bundle: &Doc) -> bool
 fn bundle_passes(bundle: &Doc) -> bool
     ensures { result ≡ tests.bundle_passes (document bundle.now) }
 {
-    bundle.is_table() && has_form(bundle) && is_text_within(512, bundle.text_at("title")) && is_version_one(bundle)
+    bundle.is_table()
+        && has_form(bundle)
+        && is_text_within(512, bundle.text_at("title"))
+        && is_version_one(bundle)
 }
 
 fn has_form(bundle: &Doc) -> bool
@@ -164,5 +167,7 @@ fn is_goal(node: &Doc) -> bool
 fn has_no_brace(text: &str) -> bool
     ensures { result ≡ list_all thin_form.no_brace text.now }
 {
-    text.as_bytes().iter().all(|byte| *byte != b'{' && *byte != b'}')
+    text.as_bytes()
+        .iter()
+        .all(|byte| *byte != b'{' && *byte != b'}')
 }

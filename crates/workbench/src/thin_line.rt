@@ -14,7 +14,9 @@ use doc_tree::Doc;
 pub fn line_passes(line: &Doc) -> bool
     ensures { result ≡ tests.line_passes (document line.now) }
 {
-    line.needs_list("features") && features_pass(line.list_at("features")) && is_empty_or_absent(line, "rules")
+    line.needs_list("features")
+        && features_pass(line.list_at("features"))
+        && is_empty_or_absent(line, "rules")
 }
 
 /// Whether the member is a list with no item, if it is there.

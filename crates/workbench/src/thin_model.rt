@@ -50,7 +50,10 @@ fn all_types_pass(types: &[Doc]) -> bool
 fn type_passes(item: &Doc) -> bool
     ensures { result ≡ tests.plain_type_passes (document item.now) }
 {
-    type_has_form(item) && !item.has("parent") && item.list_at("attributes").is_empty() && !item.truth_at("system")
+    type_has_form(item)
+        && !item.has("parent")
+        && item.list_at("attributes").is_empty()
+        && !item.truth_at("system")
 }
 
 fn type_has_form(item: &Doc) -> bool

@@ -55,7 +55,10 @@ fn build<'a>(command: &str, bundle: &'a str, limit: Option<u32>) -> Option<Invoc
         return None;
     }
     let node_limit = limit?;
-    Some(Invocation { task: Task::Build { bundle }, node_limit })
+    Some(Invocation {
+        task: Task::Build { bundle },
+        node_limit,
+    })
 }
 
 /// The limit that the two last words give.

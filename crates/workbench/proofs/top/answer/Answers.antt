@@ -10,7 +10,7 @@ use Rattle.workbench.proofs.top.answer.Goals as goal
 pub returns-in-Ok-clause-answered : goal.returns-in-Ok-clause-answered
 returns-in-Ok-clause-answered g c =
     let reads = known_words (map string_bytes c.args.words.now) ∙ sym c.read_words.ensures ∙ ap (option_map invocation_view) c.in-Some.is
-        ∙ ap (λ t. Some (record { task = t; node_limit = c.in-Some.invocation.node_limit })) (sym c.bundle.ensures) in
+    ∙ ap (λ t. Some (record { task = t; node_limit = c.in-Some.invocation.node_limit })) (sym c.bundle.ensures) in
     answers_file (map string_bytes c.args.words.now)
     (shelf_of (g.F.Shelf.holds c.args.shelf.now) (g.F.Shelf.faults c.args.shelf.now) (g.F.Shelf.next c.args.shelf.now) (g.F.Shelf.given c.args.shelf.now))
     (shelf_of (g.F.Shelf.holds c.build_file.new.shelf) (g.F.Shelf.faults c.build_file.new.shelf) (g.F.Shelf.next c.build_file.new.shelf) (g.F.Shelf.given c.build_file.new.shelf))
@@ -19,7 +19,7 @@ returns-in-Ok-clause-answered g c =
 pub returns-in-Err-clause-stopped : goal.returns-in-Err-clause-stopped
 returns-in-Err-clause-stopped g c =
     let reads = known_words (map string_bytes c.args.words.now) ∙ sym c.read_words.ensures ∙ ap (option_map invocation_view) c.in-Some.is
-        ∙ ap (λ t. Some (record { task = t; node_limit = c.in-Some.invocation.node_limit })) (sym c.bundle.ensures) in
+    ∙ ap (λ t. Some (record { task = t; node_limit = c.in-Some.invocation.node_limit })) (sym c.bundle.ensures) in
     stops_file (map string_bytes c.args.words.now)
     (shelf_of (g.F.Shelf.holds c.args.shelf.now) (g.F.Shelf.faults c.args.shelf.now) (g.F.Shelf.next c.args.shelf.now) (g.F.Shelf.given c.args.shelf.now))
     (shelf_of (g.F.Shelf.holds c.build_file.new.shelf) (g.F.Shelf.faults c.build_file.new.shelf) (g.F.Shelf.next c.build_file.new.shelf) (g.F.Shelf.given c.build_file.new.shelf))

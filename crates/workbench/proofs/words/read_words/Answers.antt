@@ -5,5 +5,5 @@ use Rattle.workbench.proofs.words.read_words.Goals as goal
 pub returns-in-5 : goal.returns-in-5
 returns-in-5 c =
     let line = five_words c.args.words.now c.index-words-1-in-5.result c.index-words-2-in-5.result c.index-words-3.result c.index-words-4.result
-        c.in-5.is c.index-words-1-in-5.is c.index-words-2-in-5.is c.index-words-3.is c.index-words-4.is in
+    c.in-5.is c.index-words-1-in-5.is c.index-words-2-in-5.is c.index-words-3.is c.index-words-4.is in
     cc
