@@ -8,7 +8,7 @@ use Rattle.meaning.specs.Statuses as meaning
 use Rattle.meaning.specs.Statuses.{status_line}
 use Rattle.meaning.specs.Words.{Build, File, files_of, bundle_file}
 use Rattle.meaning.specs.Answers.{Answer, Prints}
-use Rattle.meaning.specs.Stages.{building_one_goal}
+use Rattle.meaning.specs.Stages.{building_thin}
 use Rattle.meaning.specs.TopCall.{Outside, Says, IfTold, AgreeWith, Answered, Cause, OutKept, LinesOf, NoLimit, PlainPromise}
 use Rattle.workbench.specs.declared.status.Status.{Status}
 use Rattle.workbench.specs.declared.status.Status.TheVariants as status
@@ -35,8 +35,8 @@ nothing_said old faults = record { count = 0; grew = nothing_more old; whole = i
 -- ---- the file of a bundle
 
 module _ (words : List (List ℕ)) (before after : Outside) (name : List ℕ) (limit : ℕ)
-    (reads : building_one_goal.reads words ≡ Some (record { task = Build name; node_limit = limit })) where
-  pub answers_file : (answer : Answer) → IsFileOf (before.holds name) (λ bytes. AnswersBundle name bytes answer) → Answered building_one_goal words before answer
+    (reads : building_thin.reads words ≡ Some (record { task = Build name; node_limit = limit })) where
+  pub answers_file : (answer : Answer) → IsFileOf (before.holds name) (λ bytes. AnswersBundle name bytes answer) → Answered building_thin words before answer
   answers_file answer f = record {
     invocation = record { task = Build name; node_limit = limit };
     reads = reads;
@@ -93,8 +93,8 @@ module _ (words : List (List ℕ)) (before after : Outside) where
   shelf_after : Outside
   shelf_after = shelf_of after.holds after.faults after.next after.given
 
-  pub answered_outside : (answer : Answer) → Answered building_one_goal words (shelf_of before.holds before.faults before.next before.given) answer
-      → Answered building_one_goal words before answer
+  pub answered_outside : (answer : Answer) → Answered building_thin words (shelf_of before.holds before.faults before.next before.given) answer
+      → Answered building_thin words before answer
   answered_outside answer a = record {
     invocation = a.invocation;
     reads = a.reads;
@@ -104,7 +104,7 @@ module _ (words : List (List ℕ)) (before after : Outside) where
   }
 
   cause_outside : (s : Status) → Stops words (shelf_of before.holds before.faults before.next before.given) (shelf_of after.holds after.faults after.next after.given) s
-      → Cause building_one_goal words before after NoLimit (status_line (status_view s)) (status_view s)
+      → Cause building_thin words before after NoLimit (status_line (status_view s)) (status_view s)
   cause_outside status.Done h = absurd h
   cause_outside status.BadWords h = h
   cause_outside (status.BadBundle fault) h = record { answer = answered_outside _ h.answer }
@@ -153,7 +153,7 @@ module _ (words : List (List ℕ)) (before after : Outside) where
 
   pub stopped_promise : (s : Status) → Stops words (shelf_of before.holds before.faults before.next before.given) (shelf_of after.holds after.faults after.next after.given) s
       → after.out ≡ before.out → Says before.err after.err before.err_faults after.err_faults (status_line (status_view s))
-      → PlainPromise building_one_goal words before after (status_view s)
+      → PlainPromise building_thin words before after (status_view s)
   stopped_promise s h e said = record {
     lines = status_line (status_view s);
     cause = cause_outside s h;
@@ -165,16 +165,16 @@ module _ (words : List (List ℕ)) (before after : Outside) where
   -- the status, or want of memory in its place
   pub refused_promise : (s r : Status) → Stops words (shelf_of before.holds before.faults before.next before.given) (shelf_of after.holds after.faults after.next after.given) s
       → (r ≡ s) ⊎ (r ≡ status.NoMemory) → after.out ≡ before.out → Says before.err after.err before.err_faults after.err_faults (status_line (status_view r))
-      → PlainPromise building_one_goal words before after (status_view r)
+      → PlainPromise building_thin words before after (status_view r)
   refused_promise s r h (inl same) e said =
       stopped_promise r (subst (λ x. Stops words (shelf_of before.holds before.faults before.next before.given) (shelf_of after.holds after.faults after.next after.given) x) (sym same) h) e said
   refused_promise s r h (inr none) e said =
       stopped_promise r (subst (λ x. Stops words (shelf_of before.holds before.faults before.next before.given) (shelf_of after.holds after.faults after.next after.given) x) (sym none) tt) e said
 
-  pub printed_promise : (s : Status) (bytes : List ℕ) → Answered building_one_goal words (shelf_of before.holds before.faults before.next before.given) (Prints bytes)
+  pub printed_promise : (s : Status) (bytes : List ℕ) → Answered building_thin words (shelf_of before.holds before.faults before.next before.given) (Prints bytes)
       → Printed s before.out after.out before.out_faults after.out_faults bytes
       → Says before.err after.err before.err_faults after.err_faults (status_line (status_view s))
-      → PlainPromise building_one_goal words before after (status_view s)
+      → PlainPromise building_thin words before after (status_view s)
   printed_promise status.Done bytes a p said = record {
     lines = status_line meaning.Done;
     cause = record { bytes = bytes; answer = answered_outside (Prints bytes) a; printed = p };

@@ -5,7 +5,7 @@ use Rattle.meaning.specs.Statuses.{status_line}
 use Rattle.meaning.specs.Words.{Build, is_toml}
 use Rattle.meaning.specs.Documents.{Document, Json, document_of}
 use Rattle.meaning.specs.Answers.{Answer, IsAnswer, refusal}
-use Rattle.meaning.specs.Stages.{building_one_goal}
+use Rattle.meaning.specs.Stages.{building_thin}
 use Rattle.meaning.specs.TopCall.{Outside, IfTold, Cause, NoLimit}
 use Rattle.workbench.specs.declared.status.Status.{Status}
 use Rattle.workbench.specs.declared.status.Status.TheVariants as status
@@ -30,7 +30,7 @@ shelf_of holds faults next given = outside_of holds faults next given None 0 Non
 
 -- the answer to the bytes of a bundle file
 abbrev pub AnswersBundle : (name bytes : List ℕ) → Answer → Type 0
-AnswersBundle name bytes answer = IsAnswer building_one_goal (Build name) (bytes ∷ []) answer
+AnswersBundle name bytes answer = IsAnswer building_thin (Build name) (bytes ∷ []) answer
 
 -- this status is the answer; want of memory is none, and the statuses of reading, writing and words have other causes
 abbrev pub Refuses : (Answer → Type 0) → Status → Type 0
@@ -46,7 +46,7 @@ Refuses Is s = Is (refusal (status_view s))
 abbrev pub Stops : (words : List (List ℕ)) → (before after : Outside) → Status → Type 0
 Stops words before after status.Done = ⊥
 Stops words before after status.WriteFault = ⊥
-Stops words before after s = Cause building_one_goal words before after NoLimit (status_line (status_view s)) (status_view s)
+Stops words before after s = Cause building_thin words before after NoLimit (status_line (status_view s)) (status_view s)
 
 -- the answer to a bundle that is this document of JSON
 abbrev pub BuildsDocument : Document → Answer → Type 0

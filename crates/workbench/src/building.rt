@@ -5,13 +5,13 @@ ghost use Rattle.meaning.specs.Words as meaning;
 ghost use Rattle.meaning.specs.Documents.{Json, document_of};
 ghost use Rattle.meaning.specs.Answers.{Prints};
 ghost use Rattle.meaning.specs.BundlePlaces.{is_table_value};
-ghost use Rattle.meaning.specs.ThinTests.{one_goal_bundle_passes};
+ghost use Rattle.meaning.specs.StrategyTests.{thin_bundle_passes};
 ghost use Rattle.doc_tree.specs.View.{document};
 ghost use Rattle.workbench.specs.Run.{AnswersBundle, BuildsDocument, Refuses};
 
 use crate::status::Status;
-use crate::thin_bundle::is_one_goal_bundle;
-use crate::thin_case::one_goal_case;
+use crate::thin_bundle::is_thin_bundle;
+use crate::thin_case::case_of_bundle;
 use doc_tree::{BundleFault, Doc, DocStop, NoMemory, Part, from_json};
 use lifted_case::write_thin;
 use std::alloc::Global;
@@ -57,22 +57,24 @@ fn build_document(alloc: Global, bundle: &Doc) -> Result<Vec<u8>, Status>
     if !bundle.is_table() {
         return Err(Status::BadBundle(NO_TABLE));
     }
-    if !is_one_goal_bundle(bundle) {
-        return Err(Status::Unsupported);
+    match is_thin_bundle(alloc, bundle) {
+        Ok(true) => {}
+        Ok(false) => return Err(Status::Unsupported),
+        Err(NoMemory) => return Err(Status::NoMemory),
     }
-    match write_one_goal(alloc, bundle) {
+    match write_case(alloc, bundle) {
         Ok(bytes) => Ok(bytes),
         Err(NoMemory) => Err(Status::NoMemory),
     }
 }
 
-/// The bytes of the case of a thin bundle with one goal.
-fn write_one_goal(alloc: Global, bundle: &Doc) -> Result<Vec<u8>, NoMemory>
+/// The bytes of the case of a thin bundle.
+fn write_case(alloc: Global, bundle: &Doc) -> Result<Vec<u8>, NoMemory>
     requires table { is_table_value (document bundle.now) ≡ true }
-    requires passes { one_goal_bundle_passes (document bundle.now) ≡ true }
+    requires passes { thin_bundle_passes (document bundle.now) ≡ true }
     ensures { IfOk result (λ v. BuildsDocument (document bundle.now) (Prints v.items)) }
 {
-    let case = one_goal_case(alloc, bundle)?;
+    let case = case_of_bundle(alloc, bundle)?;
     let bytes = write_thin(alloc, &case)?;
     Ok(bytes)
 }

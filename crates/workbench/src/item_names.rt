@@ -18,11 +18,11 @@ pub fn names_pass(limit: usize, items: &[Doc]) -> bool
 }
 
 /// Whether an item gives the name.
-pub fn gives_name(items: &[Doc], name: &str) -> bool
+pub fn gives_name(items: &[Doc], name: &[u8]) -> bool
     ensures { result ≡ places.is_among (names_of items.now) name.now }
 {
     'items: for item in items {
-        if name == item.text_at("name") {
+        if name == item.text_at("name").as_bytes() {
             return true;
         }
     }
@@ -33,7 +33,7 @@ fn all_are_names(items: &[Doc]) -> bool
     ensures { result ≡ list_all texts.is_name (names_of items.now) }
 {
     'items: for item in items {
-        if !is_name(item.text_at("name")) {
+        if !is_name(item.text_at("name").as_bytes()) {
             return false;
         }
     }
@@ -44,7 +44,7 @@ fn all_are_new(items: &[Doc]) -> bool
     ensures { result ≡ places.are_new [] (names_of items.now) }
 {
     'items: for (i, item) in items.iter().enumerate() {
-        if gives_name(&items[..i], item.text_at("name")) {
+        if gives_name(&items[..i], item.text_at("name").as_bytes()) {
             return false;
         }
     }

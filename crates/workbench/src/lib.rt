@@ -2,6 +2,7 @@
 #![tactic(auto)]
 
 mod building;
+mod hole_texts;
 mod item_names;
 mod names;
 mod status;
@@ -9,8 +10,12 @@ mod thin_bundle;
 mod thin_case;
 mod thin_line;
 mod thin_model;
+mod thin_template;
 mod top;
 mod words;
+
+#[cfg(test)]
+mod tests;
 
 pub use status::Status;
 pub use top::run;

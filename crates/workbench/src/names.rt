@@ -6,11 +6,10 @@ ghost use Rattle.meaning.specs.Texts as texts;
 ghost use Rattle.meaning.specs.BundlePlaces.{text_within};
 
 /// Whether the text is a name: a letter, then letters, digits and `_`, at most 64 bytes in all, and no reserved word.
-pub fn is_name(text: &str) -> bool
+pub fn is_name(text: &[u8]) -> bool
     ensures { result ≡ texts.is_name text.now }
 {
-    let bytes = text.as_bytes();
-    begins_with_letter(bytes) && are_word_bytes(bytes) && bytes.len() <= 64 && !is_reserved(text)
+    begins_with_letter(text) && are_word_bytes(text) && text.len() <= 64 && !is_reserved(text)
 }
 
 fn begins_with_letter(bytes: &[u8]) -> bool
@@ -40,10 +39,14 @@ fn are_word_bytes(bytes: &[u8]) -> bool
     bytes.iter().all(|byte| is_word_byte(*byte))
 }
 
-fn is_reserved(text: &str) -> bool
+fn is_reserved(text: &[u8]) -> bool
     ensures { result ≡ texts.is_reserved text.now }
 {
-    text == "true" || text == "false" || text == "with" || text == "not" || text == "name"
+    text == b"true".as_slice()
+        || text == b"false".as_slice()
+        || text == b"with".as_slice()
+        || text == b"not".as_slice()
+        || text == b"name".as_slice()
 }
 
 /// Whether the text has no control character.

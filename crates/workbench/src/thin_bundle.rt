@@ -1,6 +1,6 @@
-//! Whether a document is a bundle of the form that is built: thin, with one goal, and no rule broken.
+//! Whether a document is a bundle of the form that is built: thin, and no rule broken.
 
-ghost use Rattle.std.specs.Prelude.{◌≡◌, ◌&&◌, codes, IsTrue};
+ghost use Rattle.std.specs.Prelude.{◌≡◌, ◌&&◌, codes, IsTrue, IfOk};
 ghost use Rattle.std.specs.List.{list_all};
 ghost use Rattle.workbench.specs.ItemNames.{names_of};
 ghost use Rattle.meaning.specs.BundleRules as bundle_rules;
@@ -8,24 +8,52 @@ ghost use Rattle.meaning.specs.TemplateRules as template_rules;
 ghost use Rattle.meaning.specs.LineRules.{feature_names_in, line_in};
 ghost use Rattle.meaning.specs.ThinForm as thin_form;
 ghost use Rattle.meaning.specs.ThinTests as tests;
+ghost use Rattle.meaning.specs.StrategyTests as strategy_tests;
 ghost use Rattle.meaning.specs.BundlePlaces as places;
 ghost use Rattle.meaning.specs.ModelRules.{model_in};
 ghost use Rattle.doc_tree.specs.View.{document, documents};
 
-use crate::names::{is_name, is_text_within};
-use crate::thin_line::{is_empty_or_absent, line_passes};
+use crate::names::is_text_within;
+use crate::thin_line::line_passes;
 use crate::thin_model::model_passes;
-use doc_tree::Doc;
+use crate::thin_template::template_passes;
+use doc_tree::{Doc, NoMemory};
+use std::alloc::Global;
 
-/// Whether the document is a thin bundle whose template has one goal, and that breaks no rule.
-#[tactic(auto, unfolding(meaning::specs::ThinTests::one_goal_bundle_passes))]
-pub fn is_one_goal_bundle(bundle: &Doc) -> bool
-    ensures { result ≡ tests.one_goal_bundle_passes (document bundle.now) }
+/// Whether the document is a thin bundle that breaks no rule.
+#[tactic(auto, unfolding(meaning::specs::StrategyTests::thin_bundle_passes))]
+pub fn is_thin_bundle(alloc: Global, bundle: &Doc) -> Result<bool, NoMemory>
+    ensures { IfOk result (λ passes. passes ≡ strategy_tests.thin_bundle_passes (document bundle.now)) }
 {
-    bundle_passes(bundle)
-        && line_and_model_pass(bundle)
-        && bundle.needs_list("templates")
-        && one_template_passes(bundle.list_at("templates"))
+    if !bundle_passes(bundle) || !line_and_model_pass(bundle) || !bundle.needs_list("templates") {
+        return Ok(false);
+    }
+    one_template_passes(alloc, types_of(bundle), bundle.list_at("templates"))
+}
+
+/// The types of the model.
+pub fn types_of(bundle: &Doc) -> &[Doc]
+    ensures { names_of result.now ≡ strategy_tests.type_names_in (document bundle.now) }
+{
+    match bundle.member("model") {
+        Some(model) => model.list_at("types"),
+        None => &[],
+    }
+}
+
+/// Whether there is one template, and it passes.
+fn one_template_passes(alloc: Global, types: &[Doc], templates: &[Doc]) -> Result<bool, NoMemory>
+    ensures { IfOk result (λ passes. passes ≡ strategy_tests.one_thin_template_passes (names_of types.now) (documents templates.now)) }
+{
+    match templates.split_first() {
+        Some((template, more)) => {
+            if !more.is_empty() {
+                return Ok(false);
+            }
+            template_passes(alloc, types, template)
+        }
+        None => Ok(false),
+    }
 }
 
 fn bundle_passes(bundle: &Doc) -> bool
@@ -89,85 +117,3 @@ fn model_of_bundle_passes(features: &[Doc], bundle: &Doc) -> bool
     }
 }
 
-fn one_template_passes(templates: &[Doc]) -> bool
-    ensures { result ≡ tests.one_template_passes (documents templates.now) }
-{
-    match templates.split_first() {
-        Some((template, more)) => more.is_empty() && template_passes(template),
-        None => false,
-    }
-}
-
-fn template_passes(template: &Doc) -> bool
-    ensures { result ≡ tests.template_passes (document template.now) }
-{
-    template.is_table()
-        && template.needs_text("name")
-        && is_name(template.text_at("name"))
-        && is_empty_or_absent(template, "params")
-        && template.needs_list("nodes")
-        && one_goal_passes(template.list_at("nodes"))
-}
-
-fn one_goal_passes(nodes: &[Doc]) -> bool
-    ensures { result ≡ tests.one_goal_passes (documents nodes.now) }
-{
-    match nodes.split_first() {
-        Some((node, more)) => more.is_empty() && goal_passes(node),
-        None => false,
-    }
-}
-
-fn goal_passes(node: &Doc) -> bool
-    ensures { result ≡ tests.goal_passes (document node.now) }
-{
-    node_has_form(node)
-        && is_name(node.text_at("id"))
-        && node.has("text")
-        && is_text_within(512, node.text_at("text"))
-        && has_no_brace(node.text_at("text"))
-        && is_goal(node)
-        && !node.has("under")
-        && !node.has("each")
-        && has_no_more_members(node)
-}
-
-fn node_has_form(node: &Doc) -> bool
-    ensures { result ≡ template_rules.node_has_form (document node.now) }
-{
-    node.is_table()
-        && node.needs_text("id")
-        && node.needs_text("kind")
-        && node.may_have_text("under")
-        && node.may_have_text("text")
-        && node.may_have_text("each")
-        && node.may_have_text("guard")
-        && node.may_have_table("check")
-        && node.may_have_text("template")
-        && node.may_have_texts("args")
-        && node.may_have_truth("undeveloped")
-}
-
-fn has_no_more_members(node: &Doc) -> bool
-    ensures { result ≡ thin_form.has_no_more_members (document node.now) }
-{
-    !node.has("guard")
-        && !node.has("check")
-        && !node.has("template")
-        && !node.has("args")
-        && !node.truth_at("undeveloped")
-}
-
-fn is_goal(node: &Doc) -> bool
-    ensures { result ≡ template_rules.is_goal (template_rules.kind_in (document node.now)) }
-{
-    node.text_at("kind") == "goal"
-}
-
-fn has_no_brace(text: &str) -> bool
-    ensures { result ≡ list_all thin_form.no_brace text.now }
-{
-    text.as_bytes()
-        .iter()
-        .all(|byte| *byte != b'{' && *byte != b'}')
-}

@@ -90,8 +90,8 @@ fn kind_passes(types: &[Doc], kind: &Doc) -> bool
         && kind.needs_text("name")
         && kind.needs_text("from")
         && kind.needs_text("to")
-        && gives_name(types, kind.text_at("from"))
-        && gives_name(types, kind.text_at("to"))
+        && gives_name(types, kind.text_at("from").as_bytes())
+        && gives_name(types, kind.text_at("to").as_bytes())
 }
 
 fn elements_pass(features: &[Doc], types: &[Doc], elements: &[Doc]) -> bool
@@ -116,7 +116,7 @@ fn element_passes(features: &[Doc], types: &[Doc], element: &Doc) -> bool
 {
     element_has_form(element)
         && is_under_a_feature(features, element)
-        && gives_name(types, element.text_at("type"))
+        && gives_name(types, element.text_at("type").as_bytes())
         && gives_no_attributes(element)
 }
 
@@ -134,7 +134,7 @@ fn is_under_a_feature(features: &[Doc], element: &Doc) -> bool
     ensures { result ≡ places.if_some (places.is_among (names_of features.now)) (places.text_of_member (codes "when") (document element.now)) }
 {
     match element.text_member("when") {
-        Some(feature) => gives_name(features, feature),
+        Some(feature) => gives_name(features, feature.as_bytes()),
         None => true,
     }
 }

@@ -3,7 +3,7 @@
 ghost use Rattle.std.specs.Prelude.{◌≡◌, ◌⊎◌, ◌≤◌, IfOk, IfErr, map, string_bytes, length, Some, None};
 ghost use Rattle.meaning.specs.Counts.{NoFewer};
 ghost use Rattle.meaning.specs.Answers.{Prints};
-ghost use Rattle.meaning.specs.Stages.{building_one_goal};
+ghost use Rattle.meaning.specs.Stages.{building_thin};
 ghost use Rattle.meaning.specs.Statuses.{status_line};
 ghost use Rattle.meaning.specs.TopCall.{Answered, Says, PlainPromise, Kept};
 ghost use Rattle.workbench.specs.StatusView.{status_view};
@@ -28,7 +28,7 @@ pub fn run<F: Shelf, O: Sink, E: Sink>(
     out: &mut O,
     err: &mut E,
 ) -> Status
-    ensures promise { PlainPromise building_one_goal (map string_bytes words.now)
+    ensures promise { PlainPromise building_thin (map string_bytes words.now)
         (outside_of (F.holds shelf.old) (F.faults shelf.old) (F.next shelf.old) (F.given shelf.old) (O.got out.old) (O.faults out.old) (E.got err.old) (E.faults err.old))
         (outside_of (F.holds shelf.new) (F.faults shelf.new) (F.next shelf.new) (F.given shelf.new) (O.got out.new) (O.faults out.new) (E.got err.new) (E.faults err.new))
         (status_view result) }
@@ -44,7 +44,7 @@ pub fn run<F: Shelf, O: Sink, E: Sink>(
 
 /// The whole answer, or the status that stands in its place, before anything is written.
 fn answer<F: Shelf>(alloc: Global, words: &[String], shelf: &mut F) -> Result<Vec<u8>, Status>
-    ensures answered { IfOk result (λ v. Answered building_one_goal (map string_bytes words.now)
+    ensures answered { IfOk result (λ v. Answered building_thin (map string_bytes words.now)
         (shelf_of (F.holds shelf.old) (F.faults shelf.old) (F.next shelf.old) (F.given shelf.old)) (Prints v.items)) }
     ensures stopped { IfErr result (Stops (map string_bytes words.now)
         (shelf_of (F.holds shelf.old) (F.faults shelf.old) (F.next shelf.old) (F.given shelf.old))
