@@ -41,7 +41,11 @@ fn after_byte(hole: &[u8], text: &[u8], start: Option<usize>, at: usize) -> Opti
             if byte == b'{' {
                 None
             } else if byte == b'}' {
-                if &text[first..at] == hole { Some(None) } else { None }
+                if &text[first..at] == hole {
+                    Some(None)
+                } else {
+                    None
+                }
             } else {
                 Some(Some(first))
             }

@@ -7,7 +7,7 @@ ghost use Rattle.meaning.specs.BundlePlaces as places;
 ghost use Rattle.doc_tree.specs.View.{documents};
 ghost use Rattle.workbench.specs.ItemNames.{names_of};
 
-use crate::names::is_name;
+use cond_text::are_a_name;
 use doc_tree::Doc;
 
 /// Whether the items give names, each once, and are no more than so many.
@@ -33,7 +33,7 @@ fn all_are_names(items: &[Doc]) -> bool
     ensures { result ≡ list_all texts.is_name (names_of items.now) }
 {
     'items: for item in items {
-        if !is_name(item.text_at("name").as_bytes()) {
+        if !are_a_name(item.text_at("name").as_bytes()) {
             return false;
         }
     }

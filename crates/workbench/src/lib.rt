@@ -4,8 +4,10 @@
 mod building;
 mod hole_texts;
 mod item_names;
-mod names;
 mod status;
+#[cfg(test)]
+mod tests;
+mod texts;
 mod thin_bundle;
 mod thin_case;
 mod thin_line;
@@ -13,9 +15,6 @@ mod thin_model;
 mod thin_template;
 mod top;
 mod words;
-
-#[cfg(test)]
-mod tests;
 
 pub use status::Status;
 pub use top::run;

@@ -13,7 +13,7 @@ ghost use Rattle.meaning.specs.BundlePlaces as places;
 ghost use Rattle.meaning.specs.ModelRules.{model_in};
 ghost use Rattle.doc_tree.specs.View.{document, documents};
 
-use crate::names::is_text_within;
+use crate::texts::is_text_within;
 use crate::thin_line::line_passes;
 use crate::thin_model::model_passes;
 use crate::thin_template::template_passes;
@@ -116,4 +116,3 @@ fn model_of_bundle_passes(features: &[Doc], bundle: &Doc) -> bool
         None => true,
     }
 }
-

@@ -14,8 +14,9 @@ ghost use Rattle.workbench.specs.ItemNames.{names_of};
 
 use crate::hole_texts::{colon_at, has_only_holes, opened_braces};
 use crate::item_names::gives_name;
-use crate::names::{is_name, is_text_within};
+use crate::texts::is_text_within;
 use crate::thin_line::is_empty_or_absent;
+use cond_text::are_a_name;
 use doc_tree::{Doc, NoMemory};
 use std::alloc::Global;
 
@@ -23,7 +24,10 @@ use std::alloc::Global;
 pub fn template_passes(alloc: Global, types: &[Doc], template: &Doc) -> Result<bool, NoMemory>
     ensures { IfOk result (λ passes. passes ≡ strategy_tests.thin_template_passes (names_of types.now) (document template.now)) }
 {
-    if !has_form(template) || !is_empty_or_absent(template, "params") || !template.needs_list("nodes") {
+    if !has_form(template)
+        || !is_empty_or_absent(template, "params")
+        || !template.needs_list("nodes")
+    {
         return Ok(false);
     }
     nodes_pass(alloc, types, template.list_at("nodes"))
@@ -32,7 +36,9 @@ pub fn template_passes(alloc: Global, types: &[Doc], template: &Doc) -> Result<b
 fn has_form(template: &Doc) -> bool
     ensures { result ≡ (template_rules.template_has_form (document template.now) && texts.is_name (places.name_in (document template.now))) }
 {
-    template.is_table() && template.needs_text("name") && is_name(template.text_at("name").as_bytes())
+    template.is_table()
+        && template.needs_text("name")
+        && are_a_name(template.text_at("name").as_bytes())
 }
 
 fn nodes_pass(alloc: Global, types: &[Doc], nodes: &[Doc]) -> Result<bool, NoMemory>
@@ -47,7 +53,13 @@ fn nodes_pass(alloc: Global, types: &[Doc], nodes: &[Doc]) -> Result<bool, NoMem
     three_nodes_pass(alloc, types, &nodes[0], &nodes[1], &nodes[2])
 }
 
-fn three_nodes_pass(alloc: Global, types: &[Doc], goal: &Doc, strategy: &Doc, last: &Doc) -> Result<bool, NoMemory>
+fn three_nodes_pass(
+    alloc: Global,
+    types: &[Doc],
+    goal: &Doc,
+    strategy: &Doc,
+    last: &Doc,
+) -> Result<bool, NoMemory>
     ensures { IfOk result (λ passes. passes ≡ (tests.goal_passes (document goal.now)
         && strategy_tests.strategy_passes (names_of types.now) (document goal.now) (document strategy.now)
         && strategy_tests.element_goal_passes (document goal.now) (document strategy.now) (document last.now))) }
@@ -62,7 +74,7 @@ fn strategy_passes(types: &[Doc], goal: &Doc, strategy: &Doc) -> bool
     ensures { result ≡ strategy_tests.strategy_passes (names_of types.now) (document goal.now) (document strategy.now) }
 {
     node_has_form(strategy)
-        && is_name(strategy.text_at("id").as_bytes())
+        && are_a_name(strategy.text_at("id").as_bytes())
         && has_other_id(goal, strategy)
         && text_passes(b"#".as_slice(), strategy)
         && is_plain_strategy(strategy)
@@ -84,16 +96,23 @@ fn has_third_id(first: &Doc, second: &Doc, node: &Doc) -> bool
     node.text_at("id") != first.text_at("id") && node.text_at("id") != second.text_at("id")
 }
 
-fn element_goal_passes(alloc: Global, goal: &Doc, strategy: &Doc, last: &Doc) -> Result<bool, NoMemory>
+fn element_goal_passes(
+    alloc: Global,
+    goal: &Doc,
+    strategy: &Doc,
+    last: &Doc,
+) -> Result<bool, NoMemory>
     ensures { IfOk result (λ passes. passes ≡ strategy_tests.element_goal_passes (document goal.now) (document strategy.now) (document last.now)) }
 {
     let hole = name_hole(alloc, strategy)?;
-    Ok(node_has_form(last)
-        && is_name(last.text_at("id").as_bytes())
-        && has_third_id(goal, strategy, last)
-        && text_passes(&hole, last)
-        && is_plain_goal(last)
-        && stands_under(strategy, last))
+    Ok(
+        node_has_form(last)
+            && are_a_name(last.text_at("id").as_bytes())
+            && has_third_id(goal, strategy, last)
+            && text_passes(&hole, last)
+            && is_plain_goal(last)
+            && stands_under(strategy, last),
+    )
 }
 
 /// The hole for the name of the strategy's variable.
@@ -119,7 +138,11 @@ fn after_colon(strategy: &Doc) -> &[u8]
 {
     let each = strategy.text_at("each").as_bytes();
     let colon = colon_at(each);
-    if colon < each.len() { &each[colon + 1..] } else { &[] }
+    if colon < each.len() {
+        &each[colon + 1..]
+    } else {
+        &[]
+    }
 }
 
 /// The type that `each` names, after the colon and a space.
@@ -136,7 +159,7 @@ fn is_space_and_name(text: &[u8]) -> bool
     ensures { result ≡ thin_form.is_space_and_name text.now }
 {
     match text.split_first() {
-        Some((space, name)) => *space == b' ' && is_name(name),
+        Some((space, name)) => *space == b' ' && are_a_name(name),
         None => false,
     }
 }
@@ -146,7 +169,7 @@ fn is_plain_strategy(node: &Doc) -> bool
 {
     is_strategy(node)
         && node.has("each")
-        && is_name(variable_of(node))
+        && are_a_name(variable_of(node))
         && is_space_and_name(after_colon(node))
         && has_no_more_members(node)
 }
@@ -183,7 +206,7 @@ fn goal_passes(node: &Doc) -> bool
     ensures { result ≡ tests.goal_passes (document node.now) }
 {
     node_has_form(node)
-        && is_name(node.text_at("id").as_bytes())
+        && are_a_name(node.text_at("id").as_bytes())
         && node.has("text")
         && is_text_within(512, node.text_at("text"))
         && has_no_brace(node.text_at("text"))
