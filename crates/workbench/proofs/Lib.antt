@@ -5,3 +5,6 @@ pub mod OneItem
 pub mod BuildAnswers
 pub mod OneGoalCase
 pub mod TopCauses
+pub mod ThinPieces
+pub mod ThinGoals
+pub mod ThinCaseLemmas

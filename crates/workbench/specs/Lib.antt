@@ -3,3 +3,4 @@ pub mod WordsView
 pub mod StatusView
 pub mod ItemNames
 pub mod Run
+pub mod ThinParts

@@ -7,8 +7,10 @@ mod names;
 mod status;
 mod thin_bundle;
 mod thin_case;
+mod thin_elements;
 mod thin_line;
 mod thin_model;
+mod thin_pieces;
 mod top;
 mod words;
 
