@@ -8,3 +8,5 @@ pub mod TopCauses
 pub mod ThinPieces
 pub mod ThinGoals
 pub mod ThinCaseLemmas
+pub mod ThinColon
+pub mod ThinStrategies

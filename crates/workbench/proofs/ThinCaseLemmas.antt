@@ -71,7 +71,7 @@ told_nodes met (n ∷ ns) = ap (λ xs. node_of met n ∷ xs) (told_nodes met ns)
 
 -- ---- the elements of a type
 
-abbrev element_goal_told : Enumeration → ℕ × ThinElement → NodeTold
+abbrev pub element_goal_told : Enumeration → ℕ × ThinElement → NodeTold
 element_goal_told x e = record {
   key = (element_case_node x [] e).key;
   strategy = false;
@@ -99,7 +99,7 @@ relations_conditions k (f ∷ fs) = ap (λ gs. f ∷ gs) (relations_conditions (
 abbrev goal_with : List ℕ → List CasePart → ℕ → NodeTold
 goal_with key parts when = record { key = key; strategy = false; parts = parts; when = when; branches = [] }
 
-abbrev told_over : Enumeration → List ℕ → List (ℕ × ThinElement) → List ℕ → List NodeTold
+abbrev pub told_over : Enumeration → List ℕ → List (ℕ × ThinElement) → List ℕ → List NodeTold
 told_over x goal es fs = goal_told goal ∷ record {
   key = (strategy_case_node x []).key;
   strategy = true;
@@ -186,7 +186,7 @@ condition_is features types d = go (option_and_then (λ s. place_of s features) 
     go None = refl
     go (Some f) = refl
 
-strategy_parts_are : (ss : List Segment) → map strategy_piece ss ≡ map (piece_for None) ss
+pub strategy_parts_are : (ss : List Segment) → map strategy_piece ss ≡ map (piece_for None) ss
 strategy_parts_are [] = refl
 strategy_parts_are (plain s ∷ ss) = ap (λ ps. words s ∷ ps) (strategy_parts_are ss)
 strategy_parts_are (texts.hole s ∷ ss) = ap (λ ps. count ∷ ps) (strategy_parts_are ss)
@@ -204,13 +204,13 @@ types_are [] s t e f = absurd (let n : false ≡ true = e in cc)
 types_are (n ∷ ns) s t e f = thin_is_a n ns (number_in (n ∷ ns) s) (number_in (n ∷ ns) t) ∙ same_name (n ∷ ns) s t e f
 
 module _ (features types : List (List ℕ)) (t : List ℕ) (known : is_among types t ≡ true) where
-  abbrev of_this_type : ℕ × ThinElement → Bool
+  abbrev pub of_this_type : ℕ × ThinElement → Bool
   of_this_type e = is_a (map thin_type types) e.1.of_type (number_in types t)
 
-  abbrev those_from : ℕ → List Document → List (ℕ × ThinElement)
+  abbrev pub those_from : ℕ → List Document → List (ℕ × ThinElement)
   those_from k ds = filter of_this_type (enumerate_from k (map (thin_element_in features types) ds))
 
-  abbrev IsTyped : List Document → Type 0
+  abbrev pub IsTyped : List Document → Type 0
   IsTyped ds = Each (λ d. is_among types (text_at (codes "type") d) ≡ true) ds
 
   pub conditions_are : (k : ℕ) (ds : List Document) → IsTyped ds → element_conditions (those_from k ds) ≡ conditions_told features t ds

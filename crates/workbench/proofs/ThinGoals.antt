@@ -1,22 +1,26 @@
 -- The goal for an element, as the code puts it together, and one more in a list of nodes.
-use Rattle.std.proofs.Common.{◌≡◌, refl, sym, ap, ◌∙◌, ℕ, ◌+◌, ◌<◌, List, [], ◌∷◌, ◌++◌, map, length, drop, get_or, Bool, true, false, Some}
+use Rattle.std.proofs.Common.{◌≡◌, refl, sym, ap, ◌∙◌, ℕ, ◌+◌, ◌<◌, List, [], ◌∷◌, ◌++◌, map, length, drop, get_or, Bool, true, false, Some, None}
 use Rattle.std.specs.Prelude.{codes, decimal, bytes_eq, if◌then◌else◌}
 use Rattle.meaning.specs.Documents.{Document, text_at}
 use Rattle.meaning.specs.Templates.{joined_parts}
 use Rattle.meaning.specs.BundlePlaces.{name_in}
-use Rattle.meaning.proofs.ThinNodes.{short_key}
+use Rattle.meaning.proofs.ThinNodes.{short_key, short_strategy_key}
 use Rattle.doc_tree.specs.declared.doc.Doc.{Doc}
 use Rattle.doc_tree.specs.View.{document, documents}
 use Rattle.doc_tree.proofs.Walks.{documents-drop}
 use Rattle.lifted_case.specs.declared.thin.ThinNode.{ThinNode}
 use Rattle.lifted_case.specs.declared.thin.ThinPart.{ThinPart}
 use Rattle.lifted_case.specs.View.{part_of}
-use Rattle.workbench.specs.ThinParts.{NodeTold, pieces_for, node_told, element_told, condition_in, is_of_type, elements_told}
+use Rattle.workbench.specs.ThinParts.{NodeTold, pieces_for, node_told, strategy_told, element_told, condition_in, is_of_type, elements_told}
 
 pub element_is_told : (text : List ℕ) (number : ℕ) (name : List ℕ) (when : ℕ) (key : List ℕ) (parts : List ThinPart) (branches : List ℕ)
     → key ≡ codes "0/1/" ++ (decimal number ++ codes ":2") → joined_parts (map part_of parts) ≡ pieces_for (Some name) text → branches ≡ []
     → node_told (record { key = key; strategy = false; text = parts; when = when; branches = branches }) ≡ element_told text number name when
 element_is_told text number name when key parts branches k p b = rw (k ∙ sym (short_key number), p, b) refl
+
+pub strategy_is_told : (text key : List ℕ) (parts : List ThinPart) (branches given : List ℕ) → key ≡ codes "0/1" → joined_parts (map part_of parts) ≡ pieces_for None text
+    → branches ≡ given → node_told (record { key = key; strategy = true; text = parts; when = 0; branches = branches }) ≡ strategy_told text given
+strategy_is_told text key parts branches given k p b = rw (k ∙ sym short_strategy_key, p, b) refl
 
 node_added : (nodes pushed : List ThinNode) (n : ThinNode) (x : NodeTold) (rest all : List NodeTold) → pushed ≡ nodes ++ n ∷ [] → node_told n ≡ x
     → map node_told nodes ++ x ∷ rest ≡ all → map node_told pushed ++ rest ≡ all
