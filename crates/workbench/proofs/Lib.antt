@@ -6,3 +6,8 @@ pub mod BuildAnswers
 pub mod OneGoalCase
 pub mod TopCauses
 pub mod HoleSteps
+pub mod ThinPieces
+pub mod ThinGoals
+pub mod ThinCaseLemmas
+pub mod ThinColon
+pub mod ThinStrategies

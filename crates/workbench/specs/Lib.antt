@@ -4,3 +4,4 @@ pub mod StatusView
 pub mod ItemNames
 pub mod Run
 pub mod HoleTexts
+pub mod ThinParts
