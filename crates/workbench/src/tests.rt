@@ -133,7 +133,7 @@ struct Ended {
 /// A number that no read or put of a test has.
 const NONE: u64 = 1_000;
 
-/// Runs words after the program's name over a shelf with one file, `bundle.json`. The reads and puts of these numbers fail, and each put takes
+/// Runs words after the program's name over a shelf with the bundle under two names, `bundle.json` and `bundle.toml`. The reads and puts of these numbers fail, and each put takes
 /// at most `most` bytes.
 fn ended(
     alloc: Global,
@@ -151,6 +151,7 @@ fn ended(
     }
     let mut shelf = MemShelf::new([failing.0].to_vec(alloc)?);
     shelf.add("bundle.json", bundle)?;
+    shelf.add("bundle.toml", bundle)?;
     let mut out = MemSink::new(alloc, 1_000_000, most, [failing.1].to_vec(alloc)?)?;
     let mut err = MemSink::new(alloc, 1_000, most, [failing.2].to_vec(alloc)?)?;
     let status = run(alloc, &line, &mut shelf, &mut out, &mut err);
@@ -171,7 +172,7 @@ fn thin_bundles_become_their_cases(rt: HostRuntime) -> Result<(), Fail> {
             (NONE, NONE, NONE),
             10,
         )?;
-        assert_eq!(rt; ended.err.as_slice(), b"", "at {bundle}");
+        assert_eq!(rt; ended.err.as_slice(), b"".as_slice(), "at {bundle}");
         assert_eq!(rt; ended.out.as_slice(), case.as_bytes(), "at {bundle}");
         assert_eq!(rt; ended.code, 0, "at {bundle}");
     }
@@ -189,7 +190,7 @@ fn other_bundles_are_refused_by_name(rt: HostRuntime) -> Result<(), Fail> {
             100,
         )?;
         assert_eq!(rt; ended.err.as_slice(), line.as_bytes(), "at {bundle}");
-        assert_eq!(rt; ended.out.as_slice(), b"", "at {bundle}");
+        assert_eq!(rt; ended.out.as_slice(), b"".as_slice(), "at {bundle}");
         assert_eq!(rt; ended.code, code, "at {bundle}");
     }
     let bytes = b"\xff{}".as_slice();
@@ -202,7 +203,7 @@ fn other_bundles_are_refused_by_name(rt: HostRuntime) -> Result<(), Fail> {
     )?;
     assert_eq!(rt;
         ended.err.as_slice(),
-        b"plcase: bundle rule B1 at document 0 0 0\n"
+        b"plcase: bundle rule B1 at document 0 0 0\n".as_slice()
     );
     Ok(())
 }
@@ -239,7 +240,7 @@ const WORDS: [(&[&str], u8, &str); 12] = [
         "plcase: bad words\n",
     ),
     (&["build", "none.json"], 13, "plcase: file 0 not read\n"),
-    (&["build", "bundle.toml"], 13, "plcase: file 0 not read\n"),
+    (&["build", "bundle.toml"], 16, "plcase: not built yet\n"),
     (&["build", "bundle.json", "--nodes", "1048576"], 0, ""),
 ];
 
@@ -304,7 +305,7 @@ fn a_bundle_past_its_limit_is_too_long(rt: HostRuntime) -> Result<(), Fail> {
         100,
     )?;
     assert_eq!(rt; ended.code, 12);
-    assert_eq!(rt; ended.err.as_slice(), b"plcase: file 0 too long\n");
-    assert_eq!(rt; ended.out.as_slice(), b"");
+    assert_eq!(rt; ended.err.as_slice(), b"plcase: file 0 too long\n".as_slice());
+    assert_eq!(rt; ended.out.as_slice(), b"".as_slice());
     Ok(())
 }
