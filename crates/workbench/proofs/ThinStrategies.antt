@@ -64,6 +64,12 @@ three_nodes docs ns a b c e l ea eb ec = sym e ∙ three_items docs a b c l ea e
 pub not_three_nodes : (docs : List Doc) (ns : List Document) → documents docs ≡ ns → (length docs ≡ 3 → ⊥) → length ns ≡ 3 → ⊥
 not_three_nodes docs ns e h l = h (sym (length-map docs document) ∙ ap length e ∙ l)
 
+pub not_fewer : (n : ℕ) → n < 3 → n ≡ 3 → ⊥
+not_fewer n l e = omega (arith, l, e)
+
+pub not_more : (n : ℕ) → 3 < n → n ≡ 3 → ⊥
+not_more n l e = omega (arith, l, e)
+
 pub few_conditions : (features : List (List ℕ)) (t : List ℕ) (ds : List Document) → length (conditions_told features t ds) ≤ length ds
 few_conditions features t [] = omega arith
 few_conditions features t (d ∷ ds) = go (is_of_type t d) (few_conditions features t ds)

@@ -44,12 +44,12 @@ pub fn case_of_bundle(alloc: Global, bundle: &Doc) -> Result<ThinCase, NoMemory>
 {
     let title = Word::of(alloc, bundle.text_at("title"))?;
     let features = names_in(alloc, features_of(bundle))?;
-    let (nodes, relations) = match nodes_of(bundle) {
-        [goal, strategy, element] => over_elements(alloc, bundle, goal, strategy, element)?,
-        _ => {
-            let nodes = goal_nodes(alloc, goal_of(bundle))?;
-            (nodes, Row::of(Vec::new(alloc)))
-        }
+    let parts = nodes_of(bundle);
+    let (nodes, relations) = if parts.len() == 3 {
+        over_elements(alloc, bundle, &parts[0], &parts[1], &parts[2])?
+    } else {
+        let nodes = goal_nodes(alloc, goal_of(bundle))?;
+        (nodes, Row::of(Vec::new(alloc)))
     };
     Ok(ThinCase {
         title,

@@ -1,27 +1,39 @@
-use Rattle.std.proofs.Common.{◌≡◌, [], ◌∷◌, length, map, ap, sym, ◌∙◌, arith}
+use Rattle.std.proofs.Common.{[], ◌∷◌, map, ap, ◌∙◌}
 use Rattle.meaning.specs.BundlePlaces.{name_in}
 use Rattle.meaning.specs.TemplateRules.{templates_in}
 use Rattle.doc_tree.specs.View.{document}
+use Rattle.lifted_case.specs.declared.thin.ThinCase.{ThinCase}
 use Rattle.lifted_case.proofs.OneGoal.{goal_node}
 use Rattle.workbench.specs.ThinParts.{node_told, nodes_in}
 use Rattle.workbench.proofs.ThinStrategies.{three_nodes, not_three_nodes, is_over_elements, strategy_case_is, goal_case_is}
 use Rattle.workbench.proofs.thin_case.case_of_bundle.Goals as goal
-use Rattle.workbench.proofs.thin_case.case_of_bundle.Goals.{in-len3+in_ok-over_elements-in-len3, in_default+in_ok-nodes-in_default, in_default-via-then-nodes_of-lt3, in_default-via-else-nodes_of-lt3+else-this-lt4}
+use Rattle.workbench.proofs.thin_case.case_of_bundle.Goals.{then-parts-eq3+in_ok-over_elements, else-parts-eq3+in_ok-nodes}
 
 pub over_elements-requires : goal.over_elements-requires
 over_elements-requires c =
     let d = document c.args.bundle.now in
-    let three : length c.nodes_of.result.now ≡ 3 = omega (arith, c.in-len3.len_at_least, c.in-len3.len_below) in
-    is_over_elements d (document c.goal-item.result) (document c.strategy-item.result) (document c.element-item.result) c.requires
-    (three_nodes c.nodes_of.result.now (nodes_in (templates_in d)) c.goal-item.result c.strategy-item.result c.element-item.result c.nodes_of.ensures three c.goal-item.is c.strategy-item.is c.element-item.is)
+    is_over_elements d (document c.index-parts-0.result) (document c.index-parts-1.result) (document c.index-parts-2.result) c.requires
+    (three_nodes c.nodes_of-parts.result.now (nodes_in (templates_in d)) c.index-parts-0.result c.index-parts-1.result c.index-parts-2.result
+    c.nodes_of-parts.ensures c.if-parts-eq3.true c.index-parts-0.is c.index-parts-1.is c.index-parts-2.is)
 
 pub returns : goal.returns
 returns c =
     let d = document c.args.bundle.now in
-    let case = record { title = c.in_ok-title.title; features = c.in_ok-features.features; nodes = c.if-nodes_of-lt3.nodes.0; relations = c.if-nodes_of-lt3.nodes.1 } in
+    let case : ThinCase = record { title = c.in_ok-title.title; features = c.in_ok-features.features; nodes = c.if-parts-eq3.nodes.0; relations = c.if-parts-eq3.nodes.1 } in
     let title = c.in_ok-title.ensures ∙ c.text_at.ensures in
     let features = c.in_ok-features.ensures ∙ ap (map name_in) c.features_of.ensures in
-    elim c.if-nodes_of-lt3.branch [
-      | in-len3+in_ok-over_elements-in-len3 w ↦ ?
-      | in_default+in_ok-nodes-in_default w ↦ ?
+    elim c.if-parts-eq3.branch [
+      | then-parts-eq3+in_ok-over_elements w ↦
+          strategy_case_is d (document w.index-parts-0.result) (document w.index-parts-1.result) (document w.index-parts-2.result) c.requires
+          (three_nodes c.nodes_of-parts.result.now (nodes_in (templates_in d)) w.index-parts-0.result w.index-parts-1.result w.index-parts-2.result
+          c.nodes_of-parts.ensures w.if-parts-eq3.true w.index-parts-0.is w.index-parts-1.is w.index-parts-2.is)
+          case title features
+          (ap (λ r. map node_told r.0) w.nodes-is ∙ w.in_ok-over_elements.ensures.nodes)
+          (ap (λ r. r.1) w.nodes-is ∙ w.in_ok-over_elements.ensures.relations)
+      | else-parts-eq3+in_ok-nodes w ↦
+          goal_case_is d case c.requires
+          (not_three_nodes c.nodes_of-parts.result.now (nodes_in (templates_in d)) c.nodes_of-parts.ensures w.if-parts-eq3.false)
+          title features
+          (ap (λ r. r.0) w.nodes-is ∙ w.in_ok-nodes.ensures ∙ ap (λ s. goal_node s ∷ []) w.goal_of.ensures)
+          (ap (λ r. r.1) w.nodes-is ∙ w.of-else-parts-eq3.ensures ∙ w.new.ensures.items)
     ]
