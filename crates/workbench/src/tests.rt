@@ -135,7 +135,7 @@ const NONE: u64 = 1_000;
 
 /// Runs words after the program's name over a shelf with the bundle under two names, `bundle.json` and `bundle.toml`. The reads and puts of these numbers fail, and each put takes
 /// at most `most` bytes.
-fn ended(
+fn run_over(
     alloc: Global,
     words: &[&str],
     bundle: &[u8],
@@ -165,7 +165,7 @@ fn ended(
 #[test]
 fn thin_bundles_become_their_cases(rt: HostRuntime) -> Result<(), Fail> {
     for (bundle, case) in BUILT {
-        let ended = ended(
+        let ended = run_over(
             rt.alloc(),
             &["build", "bundle.json"],
             bundle.as_bytes(),
@@ -182,7 +182,7 @@ fn thin_bundles_become_their_cases(rt: HostRuntime) -> Result<(), Fail> {
 #[test]
 fn other_bundles_are_refused_by_name(rt: HostRuntime) -> Result<(), Fail> {
     for (bundle, code, line) in REFUSED {
-        let ended = ended(
+        let ended = run_over(
             rt.alloc(),
             &["build", "bundle.json"],
             bundle.as_bytes(),
@@ -194,7 +194,7 @@ fn other_bundles_are_refused_by_name(rt: HostRuntime) -> Result<(), Fail> {
         assert_eq!(rt; ended.code, code, "at {bundle}");
     }
     let bytes = b"\xff{}".as_slice();
-    let ended = ended(
+    let ended = run_over(
         rt.alloc(),
         &["build", "bundle.json"],
         bytes,
@@ -247,7 +247,7 @@ const WORDS: [(&[&str], u8, &str); 12] = [
 #[test]
 fn words_are_taken_in_their_plain_form(rt: HostRuntime) -> Result<(), Fail> {
     for (words, code, line) in WORDS {
-        let ended = ended(
+        let ended = run_over(
             rt.alloc(),
             words,
             SMALLEST.as_bytes(),
@@ -275,7 +275,7 @@ const FAULTS: [((u64, u64, u64), u8, usize, &str); 7] = [
 #[test]
 fn faults_of_the_outside_have_their_status(rt: HostRuntime) -> Result<(), Fail> {
     for (failing, code, through, line) in FAULTS {
-        let ended = ended(
+        let ended = run_over(
             rt.alloc(),
             &["build", "bundle.json"],
             SMALLEST.as_bytes(),
@@ -297,7 +297,7 @@ fn faults_of_the_outside_have_their_status(rt: HostRuntime) -> Result<(), Fail> 
 fn a_bundle_past_its_limit_is_too_long(rt: HostRuntime) -> Result<(), Fail> {
     let mut bundle = Vec::with_capacity(rt.alloc(), 16_777_217)?;
     bundle.resize(16_777_217, b' ')?;
-    let ended = ended(
+    let ended = run_over(
         rt.alloc(),
         &["build", "bundle.json"],
         bundle.as_slice(),

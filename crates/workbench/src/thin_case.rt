@@ -21,22 +21,6 @@ use doc_tree::{Doc, NoMemory, Row, Word};
 use lifted_case::{ThinCase, ThinNode, ThinPart, ThinRel};
 use std::alloc::Global;
 
-/// The case of a thin bundle with one goal: the goal, there where the root of the line is.
-pub fn one_goal_case(alloc: Global, bundle: &Doc) -> Result<ThinCase, NoMemory>
-    requires { tests.one_goal_bundle_passes (document bundle.now) ≡ true }
-    ensures { IfOk result (λ case. case_document case ≡ thin_case (tests.one_goal_bundle (document bundle.now))) }
-{
-    let title = Word::of(alloc, bundle.text_at("title"))?;
-    let features = names_in(alloc, features_of(bundle))?;
-    let goal = goal_nodes(alloc, goal_of(bundle))?;
-    Ok(ThinCase {
-        title,
-        features,
-        nodes: goal,
-        relations: Row::of(Vec::new(alloc)),
-    })
-}
-
 /// The case of a thin bundle: a goal, and the strategy with a goal for each element if there is one.
 pub fn case_of_bundle(alloc: Global, bundle: &Doc) -> Result<ThinCase, NoMemory>
     requires { strategy_tests.thin_bundle_passes (document bundle.now) ≡ true }

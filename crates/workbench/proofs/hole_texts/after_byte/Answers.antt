@@ -1,4 +1,4 @@
-use Rattle.std.proofs.Common.{◌≤◌, ◌+◌, subst, ap, ◌∙◌, arith}
+use Rattle.std.proofs.Common.{◌≤◌, subst, ap, ◌∙◌, arith}
 use Rattle.workbench.specs.HoleTexts.{is_left, Begins}
 use Rattle.workbench.proofs.HoleSteps.{plain_inside}
 use Rattle.workbench.proofs.hole_texts.after_byte.Goals as goal
