@@ -1,4 +1,3 @@
-use Rattle.std.proofs.Common.{◌∙◌}
 use Rattle.workbench.proofs.ThinGoals.{strategy_is_told}
 use Rattle.workbench.proofs.thin_case.strategy_node.Goals as goal
 

@@ -1,5 +1,4 @@
-use Rattle.std.proofs.Common.{◌≡◌, ap, sym, ◌∙◌, [], ◌∷◌, ◌++◌}
-use Rattle.std.specs.Prelude.{codes, decimal}
+use Rattle.std.proofs.Common.{◌∙◌}
 use Rattle.workbench.proofs.ThinGoals.{element_is_told}
 use Rattle.workbench.proofs.thin_elements.element_goal.Goals as goal
 
