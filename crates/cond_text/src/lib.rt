@@ -24,4 +24,4 @@ pub use names::{NameStop, Names};
 pub use parser::parse;
 pub use printer::{NoMemory, print};
 pub use scan::ExprStop;
-pub use word::is_name;
+pub use word::{are_a_name, is_name};

@@ -121,20 +121,21 @@ fn tells_the_first_fault(rt: HostRuntime) -> Result<(), Fail> {
 fn has_at_most_512_tokens(rt: HostRuntime) -> Result<(), Fail> {
     let names = four_names(rt.alloc())?;
     let most = repeated(rt.alloc(), "!a", "&b", 255)?;
-    let deep = repeated(rt.alloc(), "", "!", 511)?;
-    assert_eq!(rt; stop_of(rt.alloc(), most.as_str(), &names), None);
-    assert_eq!(rt;
-        stop_of(rt.alloc(), deep.as_str(), &names),
-        Some(ExprStop::Syntax(511))
-    );
-
-    // One more token, a byte that starts none, and a name that isn't there.
-    for (last, at) in [("&", 512), ("$", 512), (" q", 513)] {
-        let more = repeated(rt.alloc(), most.as_str(), last, 1)?;
-        assert_eq!(rt;
-            stop_of(rt.alloc(), more.as_str(), &names),
-            Some(ExprStop::TooMany(at))
-        );
+    let opened = repeated(rt.alloc(), "!", "(", 255)?;
+    let named = repeated(rt.alloc(), opened.as_str(), "a", 1)?;
+    let deep = repeated(rt.alloc(), named.as_str(), ")", 255)?;
+    let cases = [
+        (most.as_str(), "", None),
+        (deep.as_str(), " ", None),
+        (named.as_str(), "", Some(ExprStop::Syntax(257))),
+        // One more token, a byte that starts none, and a name that isn't there.
+        (most.as_str(), "&", Some(ExprStop::TooMany(512))),
+        (deep.as_str(), "$", Some(ExprStop::TooMany(512))),
+        (most.as_str(), " q", Some(ExprStop::TooMany(513))),
+    ];
+    for (front, last, want) in cases {
+        let text = repeated(rt.alloc(), front, last, 1)?;
+        assert_eq!(rt; stop_of(rt.alloc(), text.as_str(), &names), want, "{text}");
     }
     Ok(())
 }

@@ -19,20 +19,28 @@ pub fn is_word_byte(byte: u8) -> bool
 }
 
 /// Whether the text is a word that has a meaning of its own in some text of a bundle.
-fn is_reserved(text: &str) -> bool
+fn is_reserved(text: &[u8]) -> bool
     ensures { result ≡ meaning.is_reserved text.now }
 {
-    text == "true" || text == "false" || text == "with" || text == "not" || text == "name"
+    text == b"true".as_slice()
+        || text == b"false".as_slice()
+        || text == b"with".as_slice()
+        || text == b"not".as_slice()
+        || text == b"name".as_slice()
 }
 
 /// Whether the text is a name: 1 to 64 letters, digits and `_`, a letter first, and not reserved.
 pub fn is_name(text: &str) -> bool
     ensures { result ≡ meaning.is_name text.now }
 {
-    begins_with_letter(text.as_bytes())
-        && all_word_bytes(text.as_bytes())
-        && text.len() <= 64
-        && !is_reserved(text)
+    are_a_name(text.as_bytes())
+}
+
+/// Whether the bytes are those of a name.
+pub fn are_a_name(text: &[u8]) -> bool
+    ensures { result ≡ meaning.is_name text.now }
+{
+    begins_with_letter(text) && all_word_bytes(text) && text.len() <= 64 && !is_reserved(text)
 }
 
 fn all_word_bytes(text: &[u8]) -> bool
