@@ -1,7 +1,7 @@
 -- The case of a thin bundle with a strategy, as its parts tell it.
 use Rattle.std.proofs.Common.{◌≡◌, refl, sym, ap, ap₂, ◌∙◌, subst, ℕ, suc, ◌+◌, List, [], ◌∷◌, ◌++◌, map, get_or, Bool, true, false, Option, Some, None, arith}
-use Rattle.std.specs.Prelude.{◌==◌, ◌||◌, filter, cond, codes, bytes_eq, if◌then◌else◌, option_map, option_and_then, unwrap_or}
-use Rattle.std.specs.List.{list_all, enumerate_from}
+use Rattle.std.specs.Prelude.{◌==◌, ◌||◌, filter, codes, bytes_eq, if◌then◌else◌, option_map, option_and_then, unwrap_or}
+use Rattle.std.specs.List.{enumerate_from}
 use Rattle.std.proofs.lemmas.Slice.Eq.{bytes_eq-Decides}
 use Rattle.std.proofs.lemmas.Bool.Decides.{nat_tests}
 use Rattle.meaning.specs.Texts.{place_of}
@@ -14,17 +14,15 @@ use Rattle.meaning.specs.Templates.{joined_parts}
 use Rattle.meaning.specs.BundlePlaces.{name_in, is_among, text_of_member}
 use Rattle.meaning.specs.StrategyTests.{segments_of, strategy_piece, goal_piece}
 use Rattle.meaning.specs.ThinTests.{thin_element_in}
-use Rattle.meaning.specs.ThinCases.{ThinElement, Enumeration, ThinBundle, thin_names, thin_type, thin_case, thin_case_of, thin_table, condition, condition_id, is_met, met_with, met_after, named_part, goal_case_node, strategy_case_node, element_case_node, case_relation, strategy_relations, elements_over, element_conditions, case_over}
+use Rattle.meaning.specs.ThinCases.{ThinElement, Enumeration, ThinBundle, thin_names, thin_type, thin_case, thin_case_of, thin_table, condition, condition_id, is_met, met_with, met_after, named_part, goal_case_node, strategy_case_node, element_case_node, case_relation, strategy_relations, elements_over, element_conditions}
 use Rattle.meaning.proofs.CutTrees.{Each}
 use Rattle.meaning.proofs.NameTexts.{place_among}
 use Rattle.meaning.proofs.ThinModels.{thin_is_a}
 use Rattle.meaning.proofs.ThinTables.{all_met}
-use Rattle.meaning.proofs.EmptyLists.{both_true}
 use Rattle.lifted_case.specs.declared.thin.ThinCase.{ThinCase}
 use Rattle.lifted_case.specs.declared.thin.ThinNode.{ThinNode}
-use Rattle.lifted_case.specs.declared.thin.ThinRel.{ThinRel}
 use Rattle.lifted_case.specs.View.{node_conditions, conditions, kind_of, node_of, relation_of, document_over, case_document}
-use Rattle.workbench.specs.ThinParts.{NodeTold, piece_for, pieces_for, node_told, goal_told, strategy_told, element_told, condition_in, is_of_type, conditions_told, elements_told, relation_told, relations_told}
+use Rattle.workbench.specs.ThinParts.{NodeTold, piece_for, node_told, goal_told, element_told, condition_in, is_of_type, conditions_told, elements_told, relation_told, relations_told}
 
 -- ---- what is met
 

@@ -1,7 +1,7 @@
 -- The goal for an element, as the code puts it together, and one more in a list of nodes.
 use Rattle.std.proofs.Common.{◌≡◌, refl, sym, ap, ◌∙◌, ℕ, ◌+◌, ◌<◌, List, [], ◌∷◌, ◌++◌, map, length, drop, get_or, Bool, true, false, Some, None}
 use Rattle.std.specs.Prelude.{codes, decimal, bytes_eq, if◌then◌else◌}
-use Rattle.meaning.specs.Documents.{Document, text_at}
+use Rattle.meaning.specs.Documents.{text_at}
 use Rattle.meaning.specs.Templates.{joined_parts}
 use Rattle.meaning.specs.BundlePlaces.{name_in}
 use Rattle.meaning.proofs.ThinNodes.{short_key, short_strategy_key}
@@ -11,7 +11,7 @@ use Rattle.doc_tree.proofs.Walks.{documents-drop}
 use Rattle.lifted_case.specs.declared.thin.ThinNode.{ThinNode}
 use Rattle.lifted_case.specs.declared.thin.ThinPart.{ThinPart}
 use Rattle.lifted_case.specs.View.{part_of}
-use Rattle.workbench.specs.ThinParts.{NodeTold, pieces_for, node_told, strategy_told, element_told, condition_in, is_of_type, elements_told}
+use Rattle.workbench.specs.ThinParts.{NodeTold, pieces_for, node_told, strategy_told, element_told, condition_in, elements_told}
 
 pub element_is_told : (text : List ℕ) (number : ℕ) (name : List ℕ) (when : ℕ) (key : List ℕ) (parts : List ThinPart) (branches : List ℕ)
     → key ≡ codes "0/1/" ++ (decimal number ++ codes ":2") → joined_parts (map part_of parts) ≡ pieces_for (Some name) text → branches ≡ []

@@ -1,5 +1,5 @@
 -- The pieces of a text whose braces all belong to one kind of hole, cut at its braces.
-use Rattle.std.proofs.Common.{◌≡◌, ◌≢◌, refl, sym, ap, ◌∙◌, subst, ℕ, suc, ◌+◌, ◌≤◌, ◌<◌, List, [], ◌∷◌, ◌++◌, map, length, get_or, Bool, true, false, ◌&&◌, Option, Some, None, arith}
+use Rattle.std.proofs.Common.{◌≡◌, ◌≢◌, refl, sym, ap, ◌∙◌, subst, ℕ, suc, ◌≤◌, ◌<◌, List, [], ◌∷◌, ◌++◌, map, length, get_or, Bool, true, false, Option, Some, None, arith}
 use Rattle.std.specs.Prelude.{◌==◌, bytes_eq, option_map, unwrap_or, if◌then◌else◌}
 use Rattle.std.proofs.lemmas.Bool.Decides.{nat_tests}
 use Rattle.std.proofs.lemmas.List.{append_assoc}
@@ -14,7 +14,7 @@ use Rattle.meaning.proofs.EmptyLists.{both_true}
 use Rattle.lifted_case.specs.declared.thin.ThinPart.{ThinPart}
 use Rattle.lifted_case.specs.declared.thin.ThinPart.TheVariants as part
 use Rattle.lifted_case.specs.View.{part_of}
-use Rattle.workbench.specs.ThinParts.{HasOneHole, hole_part, piece_for, pieces_for, after_byte}
+use Rattle.workbench.specs.ThinParts.{HasOneHole, hole_part, piece_for, after_byte}
 
 -- ---- joined pieces
 
@@ -136,8 +136,8 @@ module _ (name : Option (List ℕ)) (h : List ℕ) where
       let r = outside_read (map mark_of (after_byte 125 after)) cut.0 in (
         cut.0,
         ap (λ o. joined_parts (map (piece_for name) (unwrap_or o [])))
-        (open_reads (map mark_of after) e ∙ cut.1.1 ∙ ap (option_map (λ ss. texts.hole cut.1.0 ∷ ss)) r.1)
-        ∙ sym (ap (λ o. joined_parts (hole_part name ∷ map (piece_for name) (unwrap_or o []))) r.1),
+            (open_reads (map mark_of after) e ∙ cut.1.1 ∙ ap (option_map (λ ss. texts.hole cut.1.0 ∷ ss)) r.1)
+            ∙ sym (ap (λ o. joined_parts (hole_part name ∷ map (piece_for name) (unwrap_or o []))) r.1),
       )
 
   cut_here : (ws after : List ℕ) → IsFree 123 ws → outside_holes h (map mark_of (ws ++ 123 ∷ after)) ≡ true

@@ -1,5 +1,5 @@
 -- The case of a thin bundle document with a strategy, and what the code needs of such a document.
-use Rattle.std.proofs.Common.{◌≡◌, refl, sym, ap, ap₂, ◌∙◌, subst, ℕ, suc, ◌≤◌, ◌<◌, List, [], ◌∷◌, ◌++◌, map, length, get_or, Bool, true, false, ◌&&◌, ◌==◌, Some, None, arith}
+use Rattle.std.proofs.Common.{◌≡◌, refl, sym, ap, ap₂, ◌∙◌, subst, ℕ, suc, ◌≤◌, List, [], ◌∷◌, ◌++◌, map, length, get_or, Bool, true, false, ◌&&◌, ◌==◌, None, arith}
 use Rattle.std.specs.Prelude.{codes, nat_le, if◌then◌else◌}
 use Rattle.std.specs.List.{list_all}
 use Rattle.std.proofs.lemmas.Bool.Decides.{nat_tests}
@@ -10,7 +10,7 @@ use Rattle.meaning.specs.BundlePlaces.{is_list_value, may_have, if_some, name_in
 use Rattle.meaning.specs.LineRules.{line_in, features_in, feature_names_in}
 use Rattle.meaning.specs.ModelRules.{model_in, element_has_form, values_given}
 use Rattle.meaning.specs.TemplateRules.{templates_in}
-use Rattle.meaning.specs.ThinForm.{variable_of, has_only_holes}
+use Rattle.meaning.specs.ThinForm.{variable_of}
 use Rattle.meaning.specs.ThinTests.{empty_or_absent, items_pass, plain_type_passes, kind_passes, element_passes, model_passes, goal_passes, first_text, goal_text}
 use Rattle.meaning.specs.ThinCases.{Enumeration, element_conditions, thin_case}
 use Rattle.meaning.specs.CaseFiles.{CasePart}
@@ -31,7 +31,7 @@ use Rattle.lifted_case.specs.declared.thin.ThinCase.{ThinCase}
 use Rattle.lifted_case.proofs.OneGoal.{goal_node, case_document-one_goal}
 use Rattle.lifted_case.specs.View.{case_document}
 use Rattle.workbench.specs.ThinParts.{NodeTold, IsOverElements, nodes_in, node_told, goal_told, elements_told, pieces_for, is_of_type, condition_in, conditions_told, relation_told, relations_told, conditions_over, relations_over, nodes_told}
-use Rattle.workbench.proofs.ThinCaseLemmas.{case_document-strategy, conditions_are, goals_are, those_from, element_goal_told, told_over, strategy_parts_are}
+use Rattle.workbench.proofs.ThinCaseLemmas.{case_document-strategy, conditions_are, goals_are, those_from, element_goal_told, strategy_parts_are}
 
 -- ---- the nodes of the one template
 
@@ -64,12 +64,6 @@ three_nodes docs ns a b c e l ea eb ec = sym e ∙ three_items docs a b c l ea e
 pub not_three_nodes : (docs : List Doc) (ns : List Document) → documents docs ≡ ns → (length docs ≡ 3 → ⊥) → length ns ≡ 3 → ⊥
 not_three_nodes docs ns e h l = h (sym (length-map docs document) ∙ ap length e ∙ l)
 
-pub not_fewer : (n : ℕ) → n < 3 → n ≡ 3 → ⊥
-not_fewer n l e = omega (arith, l, e)
-
-pub not_more : (n : ℕ) → 3 < n → n ≡ 3 → ⊥
-not_more n l e = omega (arith, l, e)
-
 pub few_conditions : (features : List (List ℕ)) (t : List ℕ) (ds : List Document) → length (conditions_told features t ds) ≤ length ds
 few_conditions features t [] = omega arith
 few_conditions features t (d ∷ ds) = go (is_of_type t d) (few_conditions features t ds)
@@ -100,9 +94,6 @@ element_types features types (d ∷ ds) e =
 
 sixth : (mt it mk ik me ie l li s : Bool) → ((((((((mt && it) && mk) && ik) && me) && ie) && l) && li) && s) ≡ true → ie ≡ true
 sixth mt it mk ik me ie l li s e = grind (arith, common_steps)
-
-first_of_four : (a b c d : Bool) → (((a && b) && c) && d) ≡ true → a ≡ true
-first_of_four a b c d e = grind (arith, common_steps)
 
 typed_elements : (d : Document) → model_passes (feature_names_in d) (model_in d) ≡ true
     → Each (λ x. is_among (type_names_in d) (text_at (codes "type") x) ≡ true) (list_at (codes "elements") (model_in d))

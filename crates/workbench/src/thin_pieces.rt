@@ -11,11 +11,7 @@ use lifted_case::ThinPart;
 use std::alloc::Global;
 
 /// The pieces of a text, with a name in place of each hole, or the count where there is no name.
-pub fn pieces(
-    alloc: Global,
-    text: &str,
-    name: Option<&str>,
-) -> Result<Row<ThinPart>, NoMemory>
+pub fn pieces(alloc: Global, text: &str, name: Option<&str>) -> Result<Row<ThinPart>, NoMemory>
     requires { HasOneHole text.now }
     ensures { IfOk result (λ parts. joined_parts (map part_of parts) ≡ pieces_for (option_copied name.entry) text.now) }
 {

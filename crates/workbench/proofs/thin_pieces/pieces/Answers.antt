@@ -18,9 +18,9 @@ pieces-preserved c =
       search rules,
       rest_has_hole rest ws after c.after_hole-rest.result.now cut.0 cut.1 c.after_hole-rest.ensures.after c.pieces.invariant.1,
       next_pieces name (pieces_for name c.args.text.now) rest ws after c.after_hole-rest.result.now c.pieces.parts.items c.push.new.self.items c.push-in-Some.new.self.items c.in_ok-in_hole.field-0
-      cut.0 cut.1 c.after_hole-rest.ensures.after c.pieces.invariant.1
-      (c.in_ok-push.ensures.items ∙ ap (λ w. c.pieces.parts.items ++ part.Words w ∷ []) c.in_ok-of.ensures)
-      c.in_ok-push-2.ensures.items c.in_ok-in_hole.ensures c.pieces.invariant.2,
+          cut.0 cut.1 c.after_hole-rest.ensures.after c.pieces.invariant.1
+          (c.in_ok-push.ensures.items ∙ ap (λ w. c.pieces.parts.items ++ part.Words w ∷ []) c.in_ok-of.ensures)
+          c.in_ok-push-2.ensures.items c.in_ok-in_hole.ensures c.pieces.invariant.2,
     )
 
 pub returns : goal.returns
