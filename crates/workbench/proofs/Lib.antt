@@ -8,5 +8,4 @@ pub mod HoleSteps
 pub mod ThinPieces
 pub mod ThinGoals
 pub mod ThinCaseLemmas
-pub mod ThinColon
 pub mod ThinStrategies

@@ -1,6 +1,6 @@
 -- A list with another number of items than a template's nodes, and one with three.
-use Rattle.std.proofs.Common.{◌≡◌, refl, sym, ap, ◌∙◌, List, [], ◌∷◌, length, ℕ, get_or, arith}
-use Rattle.std.specs.Prelude.{Bool, false, ◌&&◌}
+use Rattle.std.proofs.Common.{◌≡◌, refl, List, [], ◌∷◌, length, ℕ, get_or, arith}
+use Rattle.std.specs.Prelude.{false, ◌&&◌}
 use Rattle.meaning.specs.ThinTests.{goal_passes}
 use Rattle.meaning.specs.StrategyTests.{nodes_pass, strategy_passes, element_goal_passes}
 use Rattle.doc_tree.specs.declared.doc.Doc.{Doc}

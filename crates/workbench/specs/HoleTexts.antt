@@ -1,5 +1,5 @@
 -- How the bytes of a text are gone through whose braces all belong to one hole.
-use Rattle.std.specs.Prelude.{◌≡◌, ℕ, ◌+◌, ◌-◌, ◌≤◌, ⊤, List, [], ◌++◌, map, take, drop, Bool, false, Option, Some, None}
+use Rattle.std.specs.Prelude.{◌≡◌, ℕ, ◌+◌, ◌-◌, ◌≤◌, ⊤, List, ◌++◌, map, take, drop, Bool, false, Option, Some, None}
 use Rattle.meaning.specs.ThinForm.{outside_holes, inside_hole, cut_at_colon}
 use Rattle.meaning.specs.TemplateTexts.{mark_of}
 

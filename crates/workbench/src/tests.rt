@@ -305,7 +305,10 @@ fn a_bundle_past_its_limit_is_too_long(rt: HostRuntime) -> Result<(), Fail> {
         100,
     )?;
     assert_eq!(rt; ended.code, 12);
-    assert_eq!(rt; ended.err.as_slice(), b"plcase: file 0 too long\n".as_slice());
+    assert_eq!(rt;
+        ended.err.as_slice(),
+        b"plcase: file 0 too long\n".as_slice()
+    );
     assert_eq!(rt; ended.out.as_slice(), b"".as_slice());
     Ok(())
 }

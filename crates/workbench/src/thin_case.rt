@@ -5,7 +5,6 @@ ghost use Rattle.meaning.specs.LineRules.{features_in};
 ghost use Rattle.meaning.specs.ModelRules.{model_in};
 ghost use Rattle.meaning.specs.TemplateRules.{templates_in};
 ghost use Rattle.meaning.specs.Documents.{list_at};
-ghost use Rattle.meaning.specs.ThinForm.{cut_at_colon, is_plain_strategy};
 ghost use Rattle.meaning.specs.ThinCases.{thin_case};
 ghost use Rattle.meaning.specs.ThinTests as tests;
 ghost use Rattle.meaning.specs.StrategyTests as strategy_tests;
@@ -17,6 +16,7 @@ ghost use Rattle.workbench.specs.ThinParts.{HasOneHole, IsOverElements, node_tol
 
 use crate::thin_elements::{add_goals, conditions, relations};
 use crate::thin_pieces::pieces;
+use crate::thin_template::type_of_each;
 use doc_tree::{Doc, NoMemory, Row, Word};
 use lifted_case::{ThinCase, ThinNode, ThinPart, ThinRel};
 use std::alloc::Global;
@@ -93,27 +93,6 @@ fn strategy_node(alloc: Global, text: &str, branches: Vec<u16>) -> Result<ThinNo
         when: 0,
         branches: Row::of(branches),
     })
-}
-
-/// The type that the strategy enumerates: `each` is a variable, a colon, a space and the type.
-fn type_of_each(strategy: &Doc) -> &str
-    requires { is_plain_strategy (document strategy.now) ≡ true }
-    ensures { result.now ≡ strategy_tests.type_of_each (document strategy.now) }
-{
-    match after_colon(strategy.text_at("each")).strip_prefix(' ') {
-        Some(name) => name,
-        None => "",
-    }
-}
-
-/// The text after the first colon.
-fn after_colon(text: &str) -> &str
-    ensures { result.now ≡ (cut_at_colon text.now).1 }
-{
-    match text.split_once(':') {
-        Some((_, after)) => after,
-        None => "",
-    }
 }
 
 /// The elements of the model.

@@ -40,14 +40,14 @@ pub fn conditions(
     alloc: Global,
     features: &[Doc],
     elements: &[Doc],
-    of_type: &str,
+    of_type: &[u8],
 ) -> Result<Vec<u16>, NoMemory>
     requires { length features.now ≤ 256 }
     ensures { IfOk result (λ v. v.items ≡ conditions_told (names_of features.now) of_type.now (documents elements.now)) }
 {
     let mut conditions = Vec::new(alloc);
     'elements: for element in elements {
-        if element.text_at("type") == of_type {
+        if element.text_at("type").as_bytes() == of_type {
             conditions.push(condition_of(features, element))?;
         }
     }
@@ -83,7 +83,7 @@ pub fn add_goals(
     nodes: &mut Vec<ThinNode>,
     features: &[Doc],
     elements: &[Doc],
-    of_type: &str,
+    of_type: &[u8],
     text: &str,
 ) -> Result<(), NoMemory>
     requires few { length features.now ≤ 256 }
@@ -92,7 +92,7 @@ pub fn add_goals(
         ≡ map node_told nodes.old.items ++ elements_told (names_of features.now) of_type.now text.now 0 (documents elements.now)) }
 {
     'elements: for (i, element) in elements.iter().enumerate() {
-        if element.text_at("type") == of_type {
+        if element.text_at("type").as_bytes() == of_type {
             let name = element.text_at("name");
             let when = condition_of(features, element);
             nodes.push(element_goal(alloc, text, i, name, when)?)?;

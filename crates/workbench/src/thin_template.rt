@@ -146,7 +146,7 @@ fn after_colon(strategy: &Doc) -> &[u8]
 }
 
 /// The type that `each` names, after the colon and a space.
-fn type_of_each(strategy: &Doc) -> &[u8]
+pub fn type_of_each(strategy: &Doc) -> &[u8]
     ensures { result.now ≡ strategy_tests.type_of_each (document strategy.now) }
 {
     match after_colon(strategy).split_first() {

@@ -8,4 +8,4 @@ returns-then-not-is_table-clause-refused c = no_table_is_faulty (document c.args
 
 pub returns-in-Ok-false-clause-refused : goal.returns-in-Ok-false-clause-refused
 returns-in-Ok-false-clause-refused c =
-    other_form_is_not_built (document c.args.bundle.now) (sym c.is_table.ensures ∙ c.if-not-is_table.false) (sym c.in-Ok-false.ensures ∙ c.in-Ok-false.field-0-is)
+    other_form_is_not_built (document c.args.bundle.now) (sym c.is_table.ensures ∙ c.if-not-is_table.false) (sym c.in-Ok-false.ensures ∙ c.in-Ok-false.field-0-test)

@@ -20,11 +20,11 @@ elements-preserved c =
       | then-eq+in_ok-element_goal+in_ok-push w ↦
           ap (λ v. map node_told v.items ++ left) w.nodes-is
           ∙ goals_next names t text i elements c.index-elements-i.result (omega arith) c.index-elements-i.is
-          (ap (λ s. bytes_eq s t) (sym c.text_at.ensures) ∙ sym c.eq.ensures ∙ w.if-eq.true)
+          (ap (λ s. bytes_eq s t) (sym c.text_at.ensures ∙ sym c.as_bytes.ensures.value) ∙ sym c.eq.ensures ∙ w.if-eq.true)
           c.elements.nodes.items w.push.new.self.items w.in_ok-element_goal.field-0 all w.in_ok-push.ensures.items
           (w.in_ok-element_goal.ensures ∙ ap₂ (λ n f. element_told text i n f) w.text_at-name.ensures w.condition_of-when.ensures) c.elements.invariant
       | else-eq w ↦
           ap (λ v. map node_told v.items ++ left) w.nodes-is
           ∙ goals_other names t text i elements c.index-elements-i.result (omega arith) c.index-elements-i.is
-          (ap (λ s. bytes_eq s t) (sym c.text_at.ensures) ∙ sym c.eq.ensures ∙ w.if-eq.false) (map node_told c.elements.nodes.items) all c.elements.invariant
+          (ap (λ s. bytes_eq s t) (sym c.text_at.ensures ∙ sym c.as_bytes.ensures.value) ∙ sym c.eq.ensures ∙ w.if-eq.false) (map node_told c.elements.nodes.items) all c.elements.invariant
     ]
