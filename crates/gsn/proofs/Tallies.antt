@@ -1,12 +1,12 @@
 -- Counts of relations that pass a test: equal tests, a test that one relation more passes, a test that passes wherever another does.
-use Rattle.std.proofs.Common.{◌≡◌, ℕ, zero, suc, ◌+◌, ◌≤◌, ◌<◌, Bool, true, false, List, [], ◌∷◌, Option, Some, None, map, length, get_or, refl, sym, ap, ◌∙◌, arith}
+use Rattle.std.proofs.Common.{◌≡◌, ℕ, zero, suc, ◌+◌, ◌≤◌, ◌<◌, Bool, true, false, List, [], ◌∷◌, Option, Some, None, map, length, get_or, take, add-one, refl, sym, ap, ◌∙◌, arith}
 use Rattle.std.specs.Prelude.{◌&&◌, All, slice_index}
 use Rattle.std.specs.List.{slice_get}
 use Rattle.std.proofs.lemmas.Bool.{false≢true, and_left}
 use Rattle.std.proofs.lemmas.List.Elements.{All-get_or}
 use Rattle.gsn.specs.declared.case.CRel.{CRel}
 use Rattle.gsn.specs.Incoming.{targets}
-use Rattle.gsn.specs.Marks.{one_for, tally, JoinsNodes}
+use Rattle.gsn.specs.Marks.{one_for, tally, total, supports_node}
 
 pub tally_same : (f g : ℕ → CRel → Bool) (rs : List CRel) → ((k : ℕ) (r : CRel) → slice_get rs k ≡ Some r → f k r ≡ g k r) → tally f rs ≡ tally g rs
 tally_same f g [] h = refl
@@ -73,3 +73,14 @@ pub place_in : (rs : List CRel) (k : ℕ) (r : CRel) → slice_get rs k ≡ Some
 place_in [] k r e = cc
 place_in (x ∷ rs) zero r e = omega arith
 place_in (x ∷ rs) (suc k) r e = omega (arith, place_in rs k r e)
+
+-- ---- the relations so far
+
+tally_more_of : (p : CRel → Bool) (rs : List CRel) (k : ℕ) (d : CRel) → k < length rs
+    → tally (λ i. p) (take (suc k) rs) ≡ tally (λ i. p) (take k rs) + one_for (p (get_or rs k d))
+tally_more_of p [] k d l = absurd (omega (arith, l))
+tally_more_of p (r ∷ rs) zero d l = omega arith
+tally_more_of p (r ∷ rs) (suc k) d l = let h = tally_more_of p rs k d (omega (arith, l)) in omega (arith, h)
+
+pub total_more : (rs : List CRel) (x k : ℕ) (d : CRel) → k < length rs → total (take (k + 1) rs) x ≡ total (take k rs) x + one_for (supports_node x (get_or rs k d))
+total_more rs x k d l = rw add-one (tally_more_of (supports_node x) rs k d l)

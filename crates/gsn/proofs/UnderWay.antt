@@ -45,7 +45,7 @@ was_in marked y b c l read e = sym (get_or_read marked y b l read false) ∙ e
 
 -- ---- forced nodes
 
-and_grows : (a b c : Bool) → (b ≡ true → c ≡ true) → (a && b) ≡ true → (a && c) ≡ true
+pub and_grows : (a b c : Bool) → (b ≡ true → c ≡ true) → (a && b) ≡ true → (a && c) ≡ true
 and_grows a b c h e = and_from a c (and_parts a b e).0 (h (and_parts a b e).1)
 
 module _ (rs : List CRel) (needed start : List ℕ) where
@@ -53,7 +53,7 @@ module _ (rs : List CRel) (needed start : List ℕ) where
   unfolding IsForced
   start_forced x w inside closed = closed.starts x w
 
-  forced_in : (inside : List Bool) → IsClosed rs needed start inside → (x : ℕ) → IsForced rs needed start x → is_in inside x ≡ true
+  pub forced_in : (inside : List Bool) → IsClosed rs needed start inside → (x : ℕ) → IsForced rs needed start x → is_in inside x ≡ true
   unfolding IsForced
   forced_in inside closed x f = f inside closed
 
@@ -63,8 +63,8 @@ module _ (rs : List CRel) (needed start : List ℕ) where
   unfolding IsForced
   gains_forced marked test x some enough marks forced inside closed =
       let grows : gains test rs x ≤ gains (leads_into inside) rs x =
-          tally_grows (λ k r. supports_node x r && test k r) (λ k r. supports_node x r && leads_into inside k r) rs
-          (λ k r at. and_grows (supports_node x r) (test k r) (is_in inside r.to) (λ e. forced r.to (marks k r at e) inside closed)) in
+      tally_grows (λ k r. supports_node x r && test k r) (λ k r. supports_node x r && leads_into inside k r) rs
+      (λ k r at. and_grows (supports_node x r) (test k r) (is_in inside r.to) (λ e. forced r.to (marks k r at e) inside closed)) in
       closed.gathers x some (omega (arith, enough, grows))
 
 -- ---- one relation more is credited
@@ -77,13 +77,14 @@ gains_more : (test test' : ℕ → CRel → Bool) (rs : List CRel) (k : ℕ) (r 
     → ((i : ℕ) (s : CRel) → slice_get rs i ≡ Some s → (i ≡ k → ⊥) → test i s ≡ test' i s)
     → (x : ℕ) → gains test' rs x ≡ gains test rs x + one_for (supports_node x r)
 gains_more test test' rs k r at off on other x = elim (cases_Bool (supports_node x r)) [
-    inl yes' ↦ plus_one (supports_node x r) (gains test rs x) (gains test' rs x) yes' (tally_more (λ i s. supports_node x s && test i s) (λ i s. supports_node x s && test' i s) rs k r at
-        (and_right (supports_node x r) (test k r) off) (and_from (supports_node x r) (test' k r) yes' on) (λ i s p ne. ap (λ b. supports_node x s && b) (other i s p ne)))
-    | inr no' ↦ plus_none (supports_node x r) (gains test rs x) (gains test' rs x) no' (tally_same (λ i s. supports_node x s && test i s) (λ i s. supports_node x s && test' i s) rs
-        (λ i s p. elim (cases_eq i k) [
-            inl e ↦ same_off (supports_node x s) (test i s) (test' i s) (ap (supports_node x) (same_one i s p e) ∙ no')
-            | inr ne ↦ ap (λ b. supports_node x s && b) (other i s p ne) ]))
-  ]
+  | inl yes' ↦ plus_one (supports_node x r) (gains test rs x) (gains test' rs x) yes' (tally_more (λ i s. supports_node x s && test i s) (λ i s. supports_node x s && test' i s) rs k r at
+      (and_right (supports_node x r) (test k r) off) (and_from (supports_node x r) (test' k r) yes' on) (λ i s p ne. ap (λ b. supports_node x s && b) (other i s p ne)))
+  | inr no' ↦ plus_none (supports_node x r) (gains test rs x) (gains test' rs x) no' (tally_same (λ i s. supports_node x s && test i s) (λ i s. supports_node x s && test' i s) rs
+      (λ i s p. elim (cases_eq i k) [
+        | inl e ↦ same_off (supports_node x s) (test i s) (test' i s) (ap (supports_node x) (same_one i s p e) ∙ no')
+        | inr ne ↦ ap (λ b. supports_node x s && b) (other i s p ne)
+      ]))
+]
   where
     plus_one : (b : Bool) (m n : ℕ) → b ≡ true → n ≡ suc m → n ≡ m + one_for b
     plus_one true m n e z = omega (arith, z)
@@ -116,7 +117,6 @@ module _ (rs : List CRel) (needed start : List ℕ) (test test' : ℕ → CRel �
   more : (x : ℕ) → gains test' rs x ≡ gains test rs x + one_for (supports_node x r)
   more x = gains_more test test' rs k r at off on other x
 
-
   still_met : (x : ℕ) → IsMet marked pending x → IsMet marked pending' x
   still_met x (inl e) = inl e
   still_met x (inr w) = inr (subst (Waits x) (sym by.waiting) (waits_more (is_supporting r && (slice_index missing r.from == 1)) x r.from pending w))
@@ -126,13 +126,13 @@ module _ (rs : List CRel) (needed start : List ℕ) (test test' : ℕ → CRel �
       let s = supports_parts x r h.0 in
       let one : slice_index missing r.from ≡ 1 = ap (slice_index missing) s.0 ∙ h.1 in
       inr (subst (Waits x) (sym by.waiting) (subst (λ y. Waits y (if is_supporting r && (slice_index missing r.from == 1) then pending ++ r.from ∷ [] else pending)) s.0
-          (waits_new (is_supporting r && (slice_index missing r.from == 1)) r.from pending (and_from (is_supporting r) (slice_index missing r.from == 1) s.1 (eq-eqb (slice_index missing r.from) 1 one)))))
+      (waits_new (is_supporting r && (slice_index missing r.from == 1)) r.from pending (and_from (is_supporting r) (slice_index missing r.from == 1) s.1 (eq-eqb (slice_index missing r.from) 1 one)))))
 
   met : (x : ℕ) → 0 < slice_index needed x → slice_index missing' x ≡ 0 → IsMet marked pending' x
   met x some none = elim (cases_eq (slice_index missing x) 0) [
-      inl z ↦ still_met x (was.need_met x some z)
-      | inr nz ↦ newly_met x (one_means (supports_node x r) (slice_index missing x) (slice_index missing' x) (by.falls x) (positive (slice_index missing x) nz) none)
-    ]
+    | inl z ↦ still_met x (was.need_met x some z)
+    | inr nz ↦ newly_met x (one_means (supports_node x r) (slice_index missing x) (slice_index missing' x) (by.falls x) (positive (slice_index missing x) nz) none)
+  ]
     where
       positive : (n : ℕ) → (n ≡ 0 → ⊥) → 0 < n
       positive zero h = absurd (h refl)
@@ -166,9 +166,9 @@ module _ (rs : List CRel) (needed start : List ℕ) (test test' : ℕ → CRel �
 
 nowhere : (n x : ℕ) → is_in (replicate n false) x ≡ false
 nowhere n x = elim (cases_lt x n) [
-    inl l ↦ get_or-replicate n x false false l
-    | inr l ↦ get_or_past (replicate n false) x false (omega (arith, l, simp_length n))
-  ]
+  | inl l ↦ get_or-replicate n x false false l
+  | inr l ↦ get_or_past (replicate n false) x false (omega (arith, l, simp_length n))
+]
   where
     simp_length : (n : ℕ) → length (replicate n false) ≡ n
     simp_length n = length-replicate n false
@@ -176,28 +176,28 @@ nowhere n x = elim (cases_lt x n) [
 pub begun : (rs : List CRel) (needed start : List ℕ) → AllBelow (length needed) start
     → IsUnderWay rs needed start (leads_into (replicate (length needed) false)) (replicate (length needed) false) needed start
 begun rs needed start below = record {
-    missing_all = refl;
-    marked_all = length-replicate (length needed) false;
-    left = λ x. let none : gains (leads_into (replicate (length needed) false)) rs x ≡ 0 =
-        tally_none (λ k r. supports_node x r && leads_into (replicate (length needed) false) k r) rs
-        (λ k r at. and_right (supports_node x r) (is_in (replicate (length needed) false) r.to) (nowhere (length needed) r.to)) in omega (arith, none);
-    start_met = λ x w. inr w;
-    need_met = λ x some none. absurd (omega (arith, some, none));
-    pending_in = below;
-    pending_forced = start_forced rs needed start;
-    marked_forced = λ x e. absurd (both_ways (is_in (replicate (length needed) false) x) (nowhere (length needed) x) e);
-  }
+  missing_all = refl;
+  marked_all = length-replicate (length needed) false;
+  left = λ x. let none : gains (leads_into (replicate (length needed) false)) rs x ≡ 0 =
+      tally_none (λ k r. supports_node x r && leads_into (replicate (length needed) false) k r) rs
+      (λ k r at. and_right (supports_node x r) (is_in (replicate (length needed) false) r.to) (nowhere (length needed) r.to)) in omega (arith, none);
+  start_met = λ x w. inr w;
+  need_met = λ x some none. absurd (omega (arith, some, none));
+  pending_in = below;
+  pending_forced = start_forced rs needed start;
+  marked_forced = λ x e. absurd (both_ways (is_in (replicate (length needed) false) x) (nowhere (length needed) x) e);
+}
 
 pub ended : (rs : List CRel) (needed start : List ℕ) (marked : List Bool) (missing : List ℕ)
     → IsUnderWay rs needed start (leads_into marked) marked missing [] → IsLeastClosed rs needed start marked
 ended rs needed start marked missing u = record {
-    nodes_all = u.marked_all;
-    closed = record {
-      starts = λ x w. only x (u.start_met x w);
-      gathers = λ x some enough. let l = u.left x in only x (u.need_met x some (omega (arith, enough, l)));
-    };
-    forced = u.marked_forced;
-  }
+  nodes_all = u.marked_all;
+  closed = record {
+    starts = λ x w. only x (u.start_met x w);
+    gathers = λ x some enough. let l = u.left x in only x (u.need_met x some (omega (arith, enough, l)));
+  };
+  forced = u.marked_forced;
+}
   where
     only : (x : ℕ) → IsMet marked [] x → is_in marked x ≡ true
     only x (inl e) = e
@@ -243,9 +243,9 @@ module _ (rs : List CRel) (needed start : List ℕ) (marked : List Bool) (missin
 
   marked_met : (x : ℕ) → IsMet marked (rest ++ y ∷ []) x → IsMet (set marked y true) rest x
   marked_met x h = elim (cases_eq x y) [
-      inl e ↦ inl (ap (is_in (set marked y true)) e ∙ in_now)
-      | inr ne ↦ other h ne
-    ]
+    | inl e ↦ inl (ap (is_in (set marked y true)) e ∙ in_now)
+    | inr ne ↦ other h ne
+  ]
     where
       other : IsMet marked (rest ++ y ∷ []) x → (x ≡ y → ⊥) → IsMet (set marked y true) rest x
       other (inl e) ne = inl (in_before x ne ∙ e)
@@ -253,16 +253,16 @@ module _ (rs : List CRel) (needed start : List ℕ) (marked : List Bool) (missin
 
   now_forced : (x : ℕ) → is_in (set marked y true) x ≡ true → IsForced rs needed start x
   now_forced x e = elim (cases_eq x y) [
-      inl same ↦ subst (IsForced rs needed start) (sym same) (was.pending_forced y (waits_end y rest))
-      | inr ne ↦ was.marked_forced x (sym (in_before x ne) ∙ e)
-    ]
+    | inl same ↦ subst (IsForced rs needed start) (sym same) (was.pending_forced y (waits_end y rest))
+    | inr ne ↦ was.marked_forced x (sym (in_before x ne) ∙ e)
+  ]
 
   module _ (last before : List ℕ) (chains : IsIncoming (length needed) (targets rs) (length rs) last before) (away : is_in marked y ≡ false) where
     same_test : (k : ℕ) (r : CRel) → slice_get rs k ≡ Some r → leads_into marked k r ≡ leads_into_from (set marked y true) y (slice_index last y) k r
     same_test k r at = elim (cases_eq r.to y) [
-        inl e ↦ (ap (is_in marked) e ∙ away) ∙ sym (and_right (is_in (set marked y true) r.to) (not (r.to == y) || nat_le (slice_index last y) k) (late e))
-        | inr ne ↦ sym (in_before r.to ne) ∙ sym (kept (is_in (set marked y true) r.to) (r.to == y) (nat_le (slice_index last y) k) (ne_eqb r.to y ne))
-      ]
+      | inl e ↦ (ap (is_in marked) e ∙ away) ∙ sym (and_right (is_in (set marked y true) r.to) (not (r.to == y) || nat_le (slice_index last y) k) (late e))
+      | inr ne ↦ sym (in_before r.to ne) ∙ sym (kept (is_in (set marked y true) r.to) (r.to == y) (nat_le (slice_index last y) k) (ne_eqb r.to y ne))
+    ]
       where
         kept : (a b c : Bool) → b ≡ false → (a && (not b || c)) ≡ a
         kept a true c e = absurd (false≢true (sym e))
@@ -323,14 +323,14 @@ module _ (rs : List CRel) (n : ℕ) (last before : List ℕ) (chains : IsIncomin
 
       turn : s.to ≡ node → nat_le (k + 1) i ≡ nat_le (slice_index before k) i
       turn e = elim (cases_lt i k) [
-          inl l ↦
-              let g = chains.before_greatest i k l (place_in rs k r at) (target_at rs i s p ∙ (e ∙ sym here)) in
-              lt-leb (k + 1) i (omega (arith, l)) ∙ sym (lt-leb (slice_index before k) i (omega (arith, g)))
-          | inr l ↦
-              let g = chains.before_in k in
-              let above : k < i = omega (arith, l, ne) in
-              le-leb (k + 1) i (omega (arith, above)) ∙ sym (le-leb (slice_index before k) i (omega (arith, g, above)))
-        ]
+        | inl l ↦
+            let g = chains.before_greatest i k l (place_in rs k r at) (target_at rs i s p ∙ (e ∙ sym here)) in
+            lt-leb (k + 1) i (omega (arith, l)) ∙ sym (lt-leb (slice_index before k) i (omega (arith, g)))
+        | inr l ↦
+            let g = chains.before_in k in
+            let above : k < i = omega (arith, l, ne) in
+            le-leb (k + 1) i (omega (arith, above)) ∙ sym (le-leb (slice_index before k) i (omega (arith, g, above)))
+      ]
 
   pub link_marks : (place : ℕ) (i : ℕ) (s : CRel) → slice_get rs i ≡ Some s → leads_into_from marked node place i s ≡ true → is_in marked s.to ≡ true
   link_marks place i s p e = (and_parts (is_in marked s.to) (not (s.to == node) || nat_le place i) e).0
@@ -339,16 +339,16 @@ module _ (rs : List CRel) (n : ℕ) (last before : List ℕ) (chains : IsIncomin
 pub all_credited : (rs : List CRel) (needed start : List ℕ) (marked : List Bool) (node : ℕ) (missing pending : List ℕ)
     → IsUnderWay rs needed start (leads_into_from marked node 0) marked missing pending → IsUnderWay rs needed start (leads_into marked) marked missing pending
 all_credited rs needed start marked node missing pending u = record {
-    missing_all = u.missing_all;
-    marked_all = u.marked_all;
-    left = λ x. u.left x ∙ ap (λ n. slice_index needed x - n) (tally_same (λ k r. supports_node x r && leads_into_from marked node 0 k r)
-        (λ k r. supports_node x r && leads_into marked k r) rs (λ k r at. ap (λ b. supports_node x r && b) (all (is_in marked r.to) (not (r.to == node)) (nat_le 0 k) (le-leb 0 k (omega arith)))));
-    start_met = u.start_met;
-    need_met = u.need_met;
-    pending_in = u.pending_in;
-    pending_forced = u.pending_forced;
-    marked_forced = u.marked_forced;
-  }
+  missing_all = u.missing_all;
+  marked_all = u.marked_all;
+  left = λ x. u.left x ∙ ap (λ n. slice_index needed x - n) (tally_same (λ k r. supports_node x r && leads_into_from marked node 0 k r)
+      (λ k r. supports_node x r && leads_into marked k r) rs (λ k r at. ap (λ b. supports_node x r && b) (all (is_in marked r.to) (not (r.to == node)) (nat_le 0 k) (le-leb 0 k (omega arith)))));
+  start_met = u.start_met;
+  need_met = u.need_met;
+  pending_in = u.pending_in;
+  pending_forced = u.pending_forced;
+  marked_forced = u.marked_forced;
+}
   where
     all : (a b c : Bool) → c ≡ true → (a && (b || c)) ≡ a
     all true true c e = refl

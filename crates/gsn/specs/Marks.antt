@@ -91,3 +91,15 @@ pub record KeepsUnderWay (node : ℕ) (rs : List CRel) (last missing pending mis
       → IsUnderWay rs needed start (leads_into_from marked node (slice_index last node)) marked missing pending
       → IsUnderWay rs needed start (leads_into marked) marked missing' pending'
   pub no_more_steps : steps missing' pending' ≤ steps missing pending
+
+-- ---- what a set starts with, and what its nodes need
+
+-- the numbers below the bound whose marks are true
+pub record IsPlaces (marks : List Bool) (bound : ℕ) (places : List ℕ) : Type 0 where
+  pub below : AllBelow bound places
+  pub only : (x : ℕ) → Waits x places → is_in marks x ≡ true
+  pub all : (x : ℕ) → x < bound → is_in marks x ≡ true → Waits x places
+
+-- how many relations a node is supported by
+abbrev pub total : List CRel → ℕ → ℕ
+total rs x = tally (λ k r. supports_node x r) rs

@@ -10,7 +10,11 @@ use doc_tree::NoMemory;
 use std::alloc::AllocFailed;
 
 /// The target of this relation has been marked: its source wants one support less, and waits to be marked if it now wants none.
-fn credit(relation: &CRel, missing: &mut Vec<usize>, pending: &mut Vec<usize>) -> Result<(), NoMemory>
+fn credit(
+    relation: &CRel,
+    missing: &mut Vec<usize>,
+    pending: &mut Vec<usize>,
+) -> Result<(), NoMemory>
     requires { relation.now.from < vec_len missing.old }
     ensures sized { vec_len missing.new ≡ vec_len missing.old }
     ensures credited { OnOk result (IsCredited relation.now missing.old.items pending.old.items missing.new.items pending.new.items) }

@@ -11,11 +11,11 @@ mod case;
 mod credit;
 mod incoming;
 mod marks;
-//mod needs;
+mod needs;
 mod status;
 mod tables;
-//cfg
-//mod tests;
+#[cfg(test)]
+mod tests;
 
 pub use case::{CNode, CRel, Case, NodeKind, RelKind};
-pub use status::Status3;
+pub use status::{Status3, statuses};

@@ -45,7 +45,7 @@ pub chain-init : goal.chain-init
 chain-init c =
     let chains = c.requires.incoming in
     let read : c.index-place.result.now ≡ slice_index c.args.incoming.now.last.items c.args.node =
-        get_or_read c.args.incoming.now.last.items c.args.node c.index-place.result.now (omega (arith, c.requires.node, chains.nodes_all)) c.index-place.ensures 0 in
+    get_or_read c.args.incoming.now.last.items c.args.node c.index-place.result.now (omega (arith, c.requires.node, chains.nodes_all)) c.index-place.ensures 0 in
     record {
       place_in = let l = chains.last_in c.args.node in omega (arith, l, read);
       place_to = λ h. ap (λ i. slice_index (targets c.args.relations.now) (i - 1)) read ∙ chains.last_to c.args.node (omega (arith, h, read));
@@ -68,7 +68,7 @@ chain-preserved c =
     let within = c.chain.invariant.place_in in
     let here = c.chain.invariant.place_to some in
     let read : c.index-place-in-chain.result.now ≡ slice_index c.args.incoming.now.before.items (c.chain.place - 1) =
-        get_or_read c.args.incoming.now.before.items (c.chain.place - 1) c.index-place-in-chain.result.now (omega (arith, some, within, chains.relations_all)) c.index-place-in-chain.ensures 0 in
+    get_or_read c.args.incoming.now.before.items (c.chain.place - 1) c.index-place-in-chain.result.now (omega (arith, some, within, chains.relations_all)) c.index-place-in-chain.ensures 0 in
     let ends = c.requires.ends in
     record {
       place_in = let l = next_in rs n last before chains ends node place some within here d in omega (arith, l, read);
@@ -86,9 +86,9 @@ pub returns-clause-credited : goal.returns-clause-credited
 returns-clause-credited c =
     let e = c.chain-test.false in
     record {
-    keeps = λ needed start marked there u.
-        all_credited c.args.relations.now needed start marked c.args.node c.chain.missing.items c.chain.pending.items
-        (subst (λ p. IsUnderWay c.args.relations.now needed start (leads_into_from marked c.args.node p) marked c.chain.missing.items c.chain.pending.items)
-        (omega arith) (c.chain.invariant.keeps needed start marked there u));
-    no_more_steps = c.chain.invariant.no_more_steps;
-  }
+      keeps = λ needed start marked there u.
+          all_credited c.args.relations.now needed start marked c.args.node c.chain.missing.items c.chain.pending.items
+          (subst (λ p. IsUnderWay c.args.relations.now needed start (leads_into_from marked c.args.node p) marked c.chain.missing.items c.chain.pending.items)
+          (omega arith) (c.chain.invariant.keeps needed start marked there u));
+      no_more_steps = c.chain.invariant.no_more_steps;
+    }

@@ -20,7 +20,7 @@ relations-preserved c =
     let t : ℕ = (slice_index_or rs c.relations.k d).to in
     let there = (All-get_or (λ r. (r.from < c.args.nodes) × (r.to < c.args.nodes)) rs c.relations.k d (omega arith) c.requires).1 in
     let read : c.index.result.now ≡ slice_index c.relations.last.items t =
-        get_or_read c.relations.last.items t c.index.result.now (omega (arith, there, c.relations.invariant.nodes_all)) c.index.ensures 0 in
+    get_or_read c.relations.last.items t c.index.result.now (omega (arith, there, c.relations.invariant.nodes_all)) c.index.ensures 0 in
     subst (λ before. IsIncoming c.args.nodes (targets rs) (c.relations.k + 1) (set c.relations.last.items t (c.relations.k + 1)) before)
     (ap (λ (x : ℕ). c.relations.before.items ++ x ∷ []) (sym read) ∙ sym c.in_ok-push.ensures.items)
     (one_relation c.args.nodes (targets rs) c.relations.k c.relations.last.items c.relations.before.items c.relations.invariant t

@@ -28,18 +28,30 @@ node_in rs needed start marked missing rest y u =
 
 pub index-requires : goal.index-requires
 index-requires c =
-    omega (arith, c.pending.marked.ok.0, (node_in c.args.relations.now c.args.needed.items c.args.start.items c.pending.marked.items c.pending.missing.items c.pop.new.self.items c.in-Some.node
-    (taken c.args.relations.now c.args.needed.items c.args.start.items c.pending.marked.items c.pending.missing.items c.pending.pending.items c.pop.new.self.items c.in-Some.node c.in-Some.ensures.items c.pending.invariant)).0)
+    omega (
+      arith,
+      c.pending.marked.ok.0,
+      (node_in c.args.relations.now c.args.needed.items c.args.start.items c.pending.marked.items c.pending.missing.items c.pop.new.self.items c.in-Some.node
+          (taken c.args.relations.now c.args.needed.items c.args.start.items c.pending.marked.items c.pending.missing.items c.pending.pending.items c.pop.new.self.items c.in-Some.node c.in-Some.ensures.items c.pending.invariant)).0,
+    )
 
 pub index_mut-requires : goal.index_mut-requires
 index_mut-requires c =
-    omega (arith, c.pending.marked.ok.0, (node_in c.args.relations.now c.args.needed.items c.args.start.items c.pending.marked.items c.pending.missing.items c.pop.new.self.items c.in-Some.node
-    (taken c.args.relations.now c.args.needed.items c.args.start.items c.pending.marked.items c.pending.missing.items c.pending.pending.items c.pop.new.self.items c.in-Some.node c.in-Some.ensures.items c.pending.invariant)).0)
+    omega (
+      arith,
+      c.pending.marked.ok.0,
+      (node_in c.args.relations.now c.args.needed.items c.args.start.items c.pending.marked.items c.pending.missing.items c.pop.new.self.items c.in-Some.node
+          (taken c.args.relations.now c.args.needed.items c.args.start.items c.pending.marked.items c.pending.missing.items c.pending.pending.items c.pop.new.self.items c.in-Some.node c.in-Some.ensures.items c.pending.invariant)).0,
+    )
 
 pub credit_all-requires-clause-node : goal.credit_all-requires-clause-node
 credit_all-requires-clause-node c =
-    omega (arith, c.pending.missing.ok.0, (node_in c.args.relations.now c.args.needed.items c.args.start.items c.pending.marked.items c.pending.missing.items c.pop.new.self.items c.in-Some.node
-    (taken c.args.relations.now c.args.needed.items c.args.start.items c.pending.marked.items c.pending.missing.items c.pending.pending.items c.pop.new.self.items c.in-Some.node c.in-Some.ensures.items c.pending.invariant)).1)
+    omega (
+      arith,
+      c.pending.missing.ok.0,
+      (node_in c.args.relations.now c.args.needed.items c.args.start.items c.pending.marked.items c.pending.missing.items c.pop.new.self.items c.in-Some.node
+          (taken c.args.relations.now c.args.needed.items c.args.start.items c.pending.marked.items c.pending.missing.items c.pending.pending.items c.pop.new.self.items c.in-Some.node c.in-Some.ensures.items c.pending.invariant)).1,
+    )
 
 -- a node is marked, and the relations to it are credited
 marked_now : (n : ℕ) (rs : List CRel) (needed start : List ℕ) (marked : List Bool) (missing pending rest missing' pending' last before : List ℕ) (y : ℕ) (b : Bool)
