@@ -1,8 +1,8 @@
 -- The least closed set is the least set of the definitions: of refuted nodes, and of supported ones.
-use Rattle.std.proofs.Common.{◌≡◌, ℕ, zero, suc, ◌+◌, ◌≤◌, ◌<◌, ◌⊎◌, inl, inr, Bool, true, false, not, List, [], ◌∷◌, Option, Some, None, map, length, get_or, refl, sym, ap, ◌∙◌, subst, arith}
-use Rattle.std.specs.Prelude.{◌&&◌, ◌||◌, ◌==◌, slice_index, filter, if◌then◌else◌}
+use Rattle.std.proofs.Common.{◌≡◌, ℕ, zero, suc, ◌+◌, ◌≤◌, ◌<◌, ◌⊎◌, inl, inr, Bool, true, false, not, List, [], ◌∷◌, Some, map, length, refl, sym, ap, ◌∙◌, subst, arith}
+use Rattle.std.specs.Prelude.{◌&&◌, ◌==◌, slice_index, filter, if◌then◌else◌}
 use Rattle.std.specs.List.{slice_get, list_any, list_all, enumerate_from, range_with_len}
-use Rattle.std.proofs.lemmas.Bool.{false≢true, and_parts, and_from, or_cases, or_left, or_right, cases_Bool, cases_lt, both_ways, not_from_false, not-true}
+use Rattle.std.proofs.lemmas.Bool.{false≢true, and_parts, and_from, or_cases, or_left, or_right, cases_Bool, cases_lt, both_ways}
 use Rattle.std.proofs.lemmas.List.{same_lists, get_or_default, get_or_past}
 use Rattle.std.proofs.Math.ListN.{get_or-map}
 use Rattle.meaning.specs.Texts.{holds_at, numbered}
@@ -11,7 +11,7 @@ use Rattle.meaning.proofs.StatusLaws.{statuses_are_least}
 use Rattle.gsn.specs.declared.case.CNode.{CNode}
 use Rattle.gsn.specs.declared.case.CRel.{CRel}
 use Rattle.gsn.specs.View.{kind_of, node_of, relation_of}
-use Rattle.gsn.specs.Marks.{one_for, tally, gains, total, supports_node, is_in, leads_into, Waits, IsClosed, IsForced, IsLeastClosed, IsPlaces, AllBelow}
+use Rattle.gsn.specs.Marks.{one_for, gains, total, supports_node, is_in, leads_into, IsClosed, IsLeastClosed, IsPlaces, AllBelow}
 use Rattle.gsn.proofs.Tallies.{tally_grows}
 use Rattle.gsn.proofs.UnderWay.{forced_in, and_grows}
 

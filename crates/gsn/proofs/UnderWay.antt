@@ -1,12 +1,12 @@
 -- The way to the least set: how it begins, what a node that is taken changes, what a credited relation changes, and how it ends.
-use Rattle.std.proofs.Common.{◌≡◌, ◌≢◌, ℕ, zero, suc, ◌+◌, ◌-◌, ◌≤◌, ◌<◌, ◌⊎◌, inl, inr, Bool, true, false, not, List, [], ◌∷◌, ◌++◌, Option, Some, None, length, get_or, set, refl, sym, ap, ◌∙◌, subst, arith}
+use Rattle.std.proofs.Common.{◌≡◌, ℕ, zero, suc, ◌+◌, ◌-◌, ◌≤◌, ◌<◌, ◌⊎◌, inl, inr, Bool, true, false, not, List, [], ◌∷◌, ◌++◌, Some, length, get_or, set, refl, sym, ap, ◌∙◌, subst, arith}
 use Rattle.std.specs.Prelude.{◌&&◌, ◌||◌, ◌==◌, nat_le, slice_index, if◌then◌else◌, replicate}
 use Rattle.std.specs.List.{slice_get}
-use Rattle.std.proofs.lemmas.Bool.{false≢true, and_parts, and_from, and_left, and_right, cases_Bool, cases_eq, cases_lt, eq-eqb, ne_eqb, eqb-true, le-leb, lt-leb, both_ways}
+use Rattle.std.proofs.lemmas.Bool.{false≢true, and_parts, and_from, and_right, cases_Bool, cases_eq, cases_lt, eq-eqb, ne_eqb, eqb-true, le-leb, lt-leb, both_ways}
 use Rattle.std.proofs.lemmas.List.{get_or-set_same, get_or-set_other, get_or-replicate, get_or_past, get_or_read, length-set, length-replicate}
 use Rattle.gsn.specs.declared.case.CRel.{CRel}
 use Rattle.gsn.specs.Incoming.{targets, IsIncoming}
-use Rattle.gsn.specs.Marks.{one_for, tally, gains, supports_node, is_supporting, is_in, leads_into, leads_into_from, Waits, AllBelow, IsClosed, IsForced, IsLeastClosed, IsMet, IsUnderWay, IsCredited}
+use Rattle.gsn.specs.Marks.{one_for, gains, supports_node, is_supporting, is_in, leads_into, leads_into_from, Waits, AllBelow, IsClosed, IsForced, IsLeastClosed, IsMet, IsUnderWay, IsCredited}
 use Rattle.gsn.proofs.Tallies.{tally_same, tally_none, tally_more, tally_grows, target_at, place_in}
 
 -- ---- lists of nodes that wait

@@ -1,5 +1,5 @@
 -- What the data of this crate mean: a case of the definitions, and the statuses of its nodes.
-use Rattle.std.specs.Prelude.{ℕ, List, [], map, length, ◌<◌, All}
+use Rattle.std.specs.Prelude.{[], map, length, ◌<◌, All}
 use Rattle.meaning.specs.Cases as plain
 use Rattle.gsn.specs.declared.case.NodeKind.{NodeKind}
 use Rattle.gsn.specs.declared.case.NodeKind.TheVariants as kind

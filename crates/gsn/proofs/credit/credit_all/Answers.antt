@@ -1,12 +1,10 @@
-use Rattle.std.proofs.Common.{◌≡◌, ◌<◌, ◌≤◌, ◌-◌, ◌+◌, ℕ, Bool, List, Some, true, length, slice_index, slice_index_or, get_or, sym, ap, ◌∙◌, subst, refl, vec_len, arith}
-use Rattle.std.specs.List.{slice_get}
-use Rattle.std.specs.Prelude.{All}
+use Rattle.std.proofs.Common.{◌≡◌, ◌<◌, ◌≤◌, ◌-◌, ◌+◌, ℕ, Bool, List, true, length, slice_index, get_or, sym, ap, ◌∙◌, subst, refl, vec_len, arith}
 use Rattle.std.proofs.lemmas.List.{get_or_read}
 use Rattle.std.proofs.lemmas.List.Elements.{All-get_or}
 use Rattle.gsn.specs.declared.case.CRel.{CRel}
 use Rattle.gsn.specs.declared.case.RelKind.TheVariants as kind
 use Rattle.gsn.specs.Incoming.{IsIncoming, targets}
-use Rattle.gsn.specs.Marks.{IsUnderWay, IsCredited, KeepsUnderWay, JoinsNodes, leads_into_from, is_in}
+use Rattle.gsn.specs.Marks.{IsUnderWay, IsCredited, JoinsNodes, leads_into_from, is_in}
 use Rattle.gsn.proofs.Tallies.{at_place}
 use Rattle.gsn.proofs.UnderWay.{credited, all_credited, link_off, link_on, link_other, link_marks}
 use Rattle.gsn.proofs.credit.credit_all.Goals as goal

@@ -1,8 +1,8 @@
 use Rattle.std.proofs.Common.{◌≡◌, ◌<◌, ℕ, Bool, List, [], ◌∷◌, ◌++◌, length, get_or, replicate, false, true, set, sym, ap, ◌∙◌, subst, arith}
 use Rattle.gsn.specs.Incoming.{IsIncoming, targets}
-use Rattle.gsn.specs.Marks.{IsUnderWay, IsLeastClosed, leads_into, is_in, Waits, KeepsUnderWay, AllBelow}
+use Rattle.gsn.specs.Marks.{IsUnderWay, leads_into, is_in, KeepsUnderWay, AllBelow}
 use Rattle.gsn.specs.declared.case.CRel.{CRel}
-use Rattle.gsn.proofs.UnderWay.{begun, passed, opened, ended, waits_end, now_in, was_in}
+use Rattle.gsn.proofs.UnderWay.{begun, passed, opened, waits_end, now_in, was_in}
 use Rattle.gsn.proofs.marks.least_marks.Goals as goal
 
 begun_of : (rs : List CRel) (needed start : List ℕ) (marked : List Bool) (n : ℕ) → n ≡ length needed → marked ≡ replicate n false → AllBelow n start

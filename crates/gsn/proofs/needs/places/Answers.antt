@@ -1,4 +1,4 @@
-use Rattle.std.proofs.Common.{◌≡◌, ◌+◌, ◌++◌, ◌∷◌, [], sym, ap, subst, ◌∙◌}
+use Rattle.std.proofs.Common.{◌+◌, sym, ap, subst, ◌∙◌}
 use Rattle.gsn.specs.Marks.{IsPlaces}
 use Rattle.gsn.proofs.Places.{no_places, place_marked, place_passed}
 use Rattle.gsn.proofs.needs.places.Goals as goal

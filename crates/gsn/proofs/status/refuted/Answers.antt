@@ -1,9 +1,9 @@
-use Rattle.std.proofs.Common.{◌≡◌, ℕ, List, Bool, true, false, map, length, sym, ap, subst, ◌∙◌, arith}
+use Rattle.std.proofs.Common.{false, map, ap, subst, ◌∙◌}
 use Rattle.std.proofs.lemmas.Result.{IfOk-weaker}
 use Rattle.meaning.specs.Cases as plain
 use Rattle.gsn.specs.View.{kind_of, node_of}
-use Rattle.gsn.specs.Marks.{IsLeastClosed, IsPlaces, one_for}
-use Rattle.gsn.proofs.LeastSets.{marked_is_refuted, starts_in, length_one_support, length_arguing, length_refuted}
+use Rattle.gsn.specs.Marks.{IsLeastClosed}
+use Rattle.gsn.proofs.LeastSets.{marked_is_refuted, starts_in, length_one_support}
 use Rattle.gsn.proofs.status.refuted.Goals as goal
 
 pub least_marks-requires-clause-start : goal.least_marks-requires-clause-start

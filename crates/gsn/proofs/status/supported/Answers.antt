@@ -1,10 +1,10 @@
-use Rattle.std.proofs.Common.{◌≡◌, ℕ, List, Bool, true, false, map, length, sym, ap, subst, ◌∙◌, arith}
+use Rattle.std.proofs.Common.{◌≡◌, ℕ, true, map, length, sym, ap, subst, ◌∙◌}
 use Rattle.std.specs.Prelude.{◌&&◌, not, slice_index, if◌then◌else◌}
 use Rattle.std.proofs.lemmas.Result.{IfOk-weaker}
 use Rattle.meaning.specs.Cases as plain
 use Rattle.gsn.specs.View.{kind_of, node_of}
-use Rattle.gsn.specs.Marks.{IsLeastClosed, IsPlaces, is_in, total}
-use Rattle.gsn.proofs.LeastSets.{marked_is_supported, starts_in, length_one_support, length_arguing, length_refuted}
+use Rattle.gsn.specs.Marks.{IsLeastClosed, is_in, total}
+use Rattle.gsn.proofs.LeastSets.{marked_is_supported, starts_in, length_arguing, length_refuted}
 use Rattle.gsn.proofs.status.supported.Goals as goal
 
 pub all_supports-requires-clause-marks : goal.all_supports-requires-clause-marks
