@@ -1,0 +1,5 @@
+pub mod Tallies
+pub mod UnderWay
+pub mod Chains
+pub mod LeastSets
+pub mod Places
