@@ -1,0 +1,4 @@
+pub mod Cofactors
+pub mod Splits
+pub mod Questions
+pub mod Answers
