@@ -174,7 +174,7 @@ Answers-high_refused {r} {question} {var} {low} {high} more most answer e e' b a
 -- ---- both branches answered
 
 -- the world with a variable put to what it is
-put_itself : (world : World) (var : ℕ) (truth : Bool) → world var ≡ truth → (v : ℕ) → put world var truth v ≡ world v
+pub put_itself : (world : World) (var : ℕ) (truth : Bool) → world var ≡ truth → (v : ℕ) → put world var truth v ≡ world v
 put_itself world var truth at v =
     ⊎_elim
     (λ (same : v ≡ var). let e : eqb v var ≡ true = grind (arith, nat_tests) in rw e (sym (ap world same ∙ at)))

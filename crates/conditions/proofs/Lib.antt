@@ -2,3 +2,6 @@ pub mod Cofactors
 pub mod Splits
 pub mod Questions
 pub mod Answers
+pub mod Least
+pub mod Counting
+pub mod Laws
