@@ -5,3 +5,4 @@ pub mod Answers
 pub mod Least
 pub mod Counting
 pub mod Laws
+pub mod Leaving

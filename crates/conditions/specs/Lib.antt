@@ -4,3 +4,6 @@ pub mod Applier
 pub mod Store
 pub mod Least
 pub mod Diagrams
+pub mod Tables
+pub mod Table
+pub mod Leaving

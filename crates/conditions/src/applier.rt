@@ -1,8 +1,8 @@
 //! Questions answered by recursion, with a table of kept results.
 
 ghost use Rattle.std.specs.Prelude.{◌≡◌, ◌+◌, ◌<◌, ◌≤◌, [], length, MatchOption, IfSome, IfOk};
-ghost use Rattle.node_pool.specs.Nodes.{top_of, value};
-ghost use Rattle.node_pool.specs.Regions.{IsRegion};
+ghost use Rattle.node_pool.specs.Nodes.{triple, top_of, value};
+ghost use Rattle.node_pool.specs.Regions.{IsRegion, IsInner, IsNumberOf};
 ghost use Rattle.node_pool.specs.Functions.{world_of};
 ghost use Rattle.conditions.specs.Questions.{first_of, IsAsked, IsNumberSplit};
 ghost use Rattle.conditions.specs.Answers.{IsAnswer, Answers, IsHalved, Joins};
@@ -95,6 +95,14 @@ impl Applier {
         ensures { result ≡ self.now.vars }
     {
         self.pool.vars()
+    }
+
+    /// The variable, the low child and the high child of a node.
+    pub fn triple(&self, number: NodeNo) -> (u16, NodeNo, NodeNo)
+        requires { IsInner self.now number }
+        ensures { IsNumberOf self.now number (triple result.0 result.1 result.2) }
+    {
+        self.pool.triple(number)
     }
 
     /// The number's function where the variable is false and where it is true.

@@ -9,10 +9,15 @@ ghost use Rattle.worlds.specs.Algebra.{Kept, HoldsWhere, HoldsNowhere, HoldAlike
 ghost use Rattle.node_pool.specs.Functions.{function_of};
 ghost use Rattle.conditions.specs.Questions.{IsAsked};
 ghost use Rattle.conditions.specs.Store.{no_region};
+ghost use Rattle.std.specs.List.{All};
+ghost use Rattle.conditions.specs.Tables.{IsExported};
 ghost use Rattle.conditions.specs.Diagrams.{algebra_of, IsLive, IsBounded, IsExact, Asks};
 
 use crate::question::{FALSE, Question, TRUE};
+use crate::export::export;
 use crate::store::Store;
+use crate::table::Table;
+use doc_tree::Row;
 use node_pool::{Full, MAX_NODES, MAX_VARS, NoMemory, NodeNo};
 use std::alloc::Global;
 use std::marker::Model;
@@ -117,6 +122,15 @@ impl Diagrams {
     {
         let _invariant = &self.store;
         self.valid = c;
+    }
+
+    /// The conditions as a table: the rows below them, in the order in which a walk over them first leaves each row, low before high before the
+    /// row, and each condition's identifier.
+    pub fn export(&self, alloc: Global, roots: &[Cond]) -> Result<(Table, Row<u32>), NoMemory>
+        requires { All (algebra_of self.now).live roots.now }
+        ensures { IfOk result (λ exported. IsExported self.now.region roots.now exported.0 exported.1) }
+    {
+        export(&self.store, alloc, roots)
     }
 
     /// Makes one more function.

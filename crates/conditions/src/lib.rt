@@ -11,10 +11,13 @@
 
 mod applier;
 mod diagrams;
+mod export;
 mod question;
 mod store;
+mod table;
 #[cfg(test)]
 mod tests;
 
 pub use diagrams::{Cond, Diagrams};
 pub use node_pool::{NoMemory, NodeNo};
+pub use table::Table;

@@ -1,8 +1,8 @@
 //! A region of nodes that is opened once.
 
 ghost use Rattle.std.specs.Prelude.{◌≡◌, ◌≢◌, ◌+◌, ◌<◌, ◌≤◌, [], length, OnOk, OnErr, IsErr, Ok};
-ghost use Rattle.node_pool.specs.Nodes.{top_of, value};
-ghost use Rattle.node_pool.specs.Regions.{IsRegion};
+ghost use Rattle.node_pool.specs.Nodes.{triple, top_of, value};
+ghost use Rattle.node_pool.specs.Regions.{IsRegion, IsInner, IsNumberOf};
 ghost use Rattle.node_pool.specs.Functions.{world_of};
 ghost use Rattle.conditions.specs.Questions.{IsAsked, IsNumberSplit};
 ghost use Rattle.conditions.specs.Answers.{Answers};
@@ -83,6 +83,17 @@ impl Store {
         match &self.opened {
             Some(applier) => applier.vars(),
             None => 0,
+        }
+    }
+
+    /// The variable, the low child and the high child of a node.
+    pub fn triple(&self, number: NodeNo) -> (u16, NodeNo, NodeNo)
+        requires { IsInner self.now number }
+        ensures { IsNumberOf self.now number (triple result.0 result.1 result.2) }
+    {
+        match &self.opened {
+            Some(applier) => applier.triple(number),
+            None => unreachable!(),
         }
     }
 
