@@ -6,3 +6,4 @@ pub mod Least
 pub mod Counting
 pub mod Laws
 pub mod Leaving
+pub mod Tables
