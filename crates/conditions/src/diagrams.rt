@@ -13,8 +13,8 @@ ghost use Rattle.std.specs.List.{All};
 ghost use Rattle.conditions.specs.Tables.{IsExported};
 ghost use Rattle.conditions.specs.Diagrams.{algebra_of, IsLive, IsBounded, IsExact, Asks};
 
-use crate::question::{FALSE, Question, TRUE};
 use crate::export::export;
+use crate::question::{FALSE, Question, TRUE};
 use crate::store::Store;
 use crate::table::Table;
 use doc_tree::Row;

@@ -13,7 +13,12 @@ use std::alloc::Global;
 
 /// Leaves the rows below a number, its low before its high, and then its own. `ids` has the identifier of each node whose row was left, and 0
 /// for each other one.
-fn leave(store: &Store, number: NodeNo, ids: &mut Vec<u32>, rows: &mut Vec<(u16, u32, u32)>) -> Result<u32, NoMemory>
+fn leave(
+    store: &Store,
+    number: NodeNo,
+    ids: &mut Vec<u32>,
+    rows: &mut Vec<(u16, u32, u32)>,
+) -> Result<u32, NoMemory>
     requires there { number.0 < length store.now.nodes + 2 }
     requires leaving { IsLeaving store.now ids.old.items rows.old.items }
     ensures { IfOk result (IsLeft store.now number.0 ids.old.items rows.old.items ids.new.items rows.new.items) }
@@ -53,7 +58,11 @@ fn zeros(alloc: Global, count: usize) -> Result<Vec<u32>, NoMemory>
 }
 
 /// The rows below the numbers, in the order in which a walk over them first leaves each, and each number's identifier.
-pub fn export(store: &Store, alloc: Global, numbers: &[NodeNo]) -> Result<(Table, Row<u32>), NoMemory>
+pub fn export(
+    store: &Store,
+    alloc: Global,
+    numbers: &[NodeNo],
+) -> Result<(Table, Row<u32>), NoMemory>
     requires { All (λ n. n.0 < length store.now.nodes + 2) numbers.now }
     ensures { IfOk result (λ exported. IsExported store.now numbers.now exported.0 exported.1) }
 {

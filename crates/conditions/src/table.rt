@@ -54,7 +54,11 @@ impl Table {
         let mut id = id;
         while id >= 2 {
             let (variable, low, high) = self.rows[id as usize - 2];
-            id = if world[usize::from(variable)] { high } else { low };
+            id = if world[usize::from(variable)] {
+                high
+            } else {
+                low
+            };
         }
         id == 1
     }
