@@ -1,1 +1,9 @@
 pub mod View
+pub mod Lists
+pub mod Tokens
+pub mod Lexemes
+pub mod Stops
+pub mod Scans
+pub mod Phrases
+pub mod Readings
+pub mod Printing

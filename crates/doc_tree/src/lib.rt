@@ -11,6 +11,7 @@
 
 mod doc;
 mod fault;
+mod members;
 mod read;
 mod row;
 mod word;

@@ -8,7 +8,7 @@ use Rattle.meaning.specs.CaseFiles.{Row, CasePart, words, count, CaseCheck, Neve
 use Rattle.meaning.specs.Cases.{kind_word}
 use Rattle.meaning.specs.CaseBytes.{items_of, members_of, list_data, natural_data, part_data, row_data, target_data, witness_data, finding_members, branch_members, finding_member, node_data, relation_word, relation_data, transition_data, system_data, case_data}
 use Rattle.doc_tree.specs.Order.{is_before, is_before_all, names_rise, is_in_order, items_in_order, values_in_order, nesting, items_nesting, values_nesting, most_nesting}
-use Rattle.lifted_case.proofs.Plain.{both_true}
+use Rattle.doc_tree.proofs.Writing.{both_true}
 
 -- ---- documents
 

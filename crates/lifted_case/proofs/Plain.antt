@@ -1,15 +1,12 @@
 -- What is plain is written as it was read.
-use Rattle.std.proofs.Common.{◌≡◌, ℕ, pos, negsuc, List, Bool, true, false, ◌&&◌, if◌then◌else◌, refl, ap, ap₂, ◌∙◌}
+use Rattle.std.proofs.Common.{◌≡◌, ℕ, pos, negsuc, List, true, ◌&&◌, if◌then◌else◌, refl, ap, ap₂, ◌∙◌}
 use Rattle.serde_json.specs.Data.{Num, unsigned, negative, float, Data, null, boolean, number, string, array, object, Items, no_items, item, Members, no_members, member}
 use Rattle.meaning.specs.Documents.{Document, of_json, of_number, items_of_json, members_of_json, or_left_out}
 use Rattle.meaning.specs.Documents as meaning
 use Rattle.doc_tree.specs.Order.{has_no_other, items_have_no_other, values_have_no_other}
 use Rattle.doc_tree.specs.Written.{data_of, items_data, members_data}
+use Rattle.doc_tree.proofs.Writing.{both_true}
 use Rattle.lifted_case.specs.Written.{is_plain, items_are_plain, members_are_plain, is_whole}
-
-pub both_true : (a b : Bool) → (a && b) ≡ true → (a ≡ true) × (b ≡ true)
-both_true true b h = (refl, h)
-both_true false b h = cc
 
 -- a member that is plain is not left out
 pub or_left_out-plain : (k : List ℕ) (v : Data) (d : Document) (ms : meaning.Members) → is_plain v ≡ true → or_left_out k v d ms ≡ meaning.member k d ms

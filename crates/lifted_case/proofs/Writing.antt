@@ -13,11 +13,12 @@ use Rattle.doc_tree.specs.declared.doc.Doc.TheVariants as doc
 use Rattle.doc_tree.specs.View.{document, documents, documents_of, members}
 use Rattle.doc_tree.specs.View as view
 use Rattle.doc_tree.proofs.Levels.{document-List, document-Table}
+use Rattle.doc_tree.proofs.Writing.{both_true, map-more}
 use Rattle.lifted_case.specs.declared.thin.ThinPart.{ThinPart}
 use Rattle.lifted_case.specs.View.{part_of}
 use Rattle.lifted_case.specs.Written.{is_plain, items_are_plain, members_are_plain, IsWritten, AreWritten, MembersWritten, part_documents, with_part}
 use Rattle.lifted_case.proofs.ConditionIds.{feature_rows-more}
-use Rattle.lifted_case.proofs.Plain.{both_true, or_left_out-plain}
+use Rattle.lifted_case.proofs.Plain.{or_left_out-plain}
 
 -- ---- lists
 
@@ -32,10 +33,6 @@ IsWritten-list d docs items vs e same all = record {
       ∙ ap (λ ds. meaning.list (documents_of ds)) all.read ∙ ap meaning.list (documents_of-map vs);
   plain = all.plain;
 }
-
-map-more : {A B : Type 0} (f : A → B) (xs : List A) (x : A) → map f (xs ++ x ∷ []) ≡ map f xs ++ f x ∷ []
-map-more f [] x = refl
-map-more f (y ∷ xs) x = ap (λ ys. f y ∷ ys) (map-more f xs x)
 
 and_true : (a b : Bool) → a ≡ true → b ≡ true → (a && b) ≡ true
 and_true a b p q = ap₂ (λ x y. x && y) p q

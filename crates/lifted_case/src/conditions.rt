@@ -1,4 +1,4 @@
-ghost use Rattle.std.specs.Prelude.{◌≡◌, ◌≤◌, ℕ, List, [], ◌∷◌, ◌++◌, ◌<◌, IfOk, OnOk, length, vec_len, slice_index};
+ghost use Rattle.std.specs.Prelude.{◌≡◌, ◌≤◌, [], IfOk, OnOk, length, vec_len};
 ghost use Rattle.meaning.specs.ThinCases.{met_with, met_after, condition_id};
 ghost use Rattle.lifted_case.specs.View.{node_conditions, conditions};
 ghost use Rattle.lifted_case.specs.Conditions.{IsFilled};

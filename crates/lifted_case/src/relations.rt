@@ -1,4 +1,4 @@
-ghost use Rattle.std.specs.Prelude.{◌≡◌, IfOk, map};
+ghost use Rattle.std.specs.Prelude.{IfOk, map};
 ghost use Rattle.meaning.specs.CaseBytes.{relation_data, list_data};
 ghost use Rattle.doc_tree.specs.View.{document};
 ghost use Rattle.lifted_case.specs.View.{relation_of};

@@ -1,8 +1,8 @@
-ghost use Rattle.std.specs.Prelude.{◌≡◌, ◌≤◌, IfOk, length, map};
+ghost use Rattle.std.specs.Prelude.{◌≤◌, IfOk, length};
 ghost use Rattle.meaning.specs.CaseBytes.{row_data, list_data};
 ghost use Rattle.meaning.specs.ThinCases.{thin_table};
-ghost use Rattle.doc_tree.specs.View.{document, documents};
-ghost use Rattle.lifted_case.specs.Written.{IsWritten, AreWritten};
+ghost use Rattle.doc_tree.specs.View.{document};
+ghost use Rattle.lifted_case.specs.Written.{IsWritten};
 
 use crate::tables::{list, number};
 use doc_tree::{Doc, NoMemory};

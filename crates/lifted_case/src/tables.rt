@@ -1,4 +1,4 @@
-ghost use Rattle.std.specs.Prelude.{◌≡◌, [], ◌∷◌, ◌++◌, List, IfOk, OnOk, ℕ, map};
+ghost use Rattle.std.specs.Prelude.{◌≡◌, [], ◌∷◌, ◌++◌, List, IfOk, OnOk, ℕ};
 ghost use Rattle.serde_json.specs.Data.{Data, string, array, object};
 ghost use Rattle.meaning.specs.CaseBytes.{natural_data, items_of, members_of, list_data};
 ghost use Rattle.doc_tree.specs.View.{document, documents, members};

@@ -14,15 +14,12 @@ use Rattle.meaning.specs.QueryFaults.{placed_tokens, placed_signs, word_or_stran
 use Rattle.meaning.specs.ExpressionFaults.{UnknownName}
 use Rattle.meaning.specs.BundlePlaces.{or_else}
 use Rattle.meaning.specs.ThinForm.{cut_at_colon, is_space_and_name}
+use Rattle.meaning.specs.StrategyTests.{after_first}
 use Rattle.meaning.specs.ThinCases.{each_of_type}
 use Rattle.meaning.proofs.EmptyLists.{both_true}
 use Rattle.meaning.proofs.NameTexts.{name_begins, name_has_word_bytes}
 
 -- ---- the text
-
-abbrev pub after_first : List ℕ → List ℕ
-after_first [] = []
-after_first (c ∷ cs) = cs
 
 abbrev cut_step : Bool → ℕ → List ℕ → List ℕ × List ℕ → List ℕ × List ℕ
 cut_step b c cs rest = if b then ([], cs) else (c ∷ rest.0, rest.1)

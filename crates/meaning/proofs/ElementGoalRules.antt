@@ -1,5 +1,5 @@
 -- The rules of the goal below a plain strategy: that none is broken, and that it is plain, is what its tests say.
-use Rattle.std.proofs.Common.{◌≡◌, refl, sym, ap, ◌∙◌, ℕ, suc, ◌+◌, List, [], ◌∷◌, ◌++◌, map, take, Bool, true, false, not, ◌&&◌, ◌||◌, Option, Some, None, arith}
+use Rattle.std.proofs.Common.{◌≡◌, refl, ap, ◌∙◌, ℕ, suc, ◌+◌, List, [], ◌∷◌, ◌++◌, map, take, Bool, true, false, not, ◌&&◌, Some, None, arith}
 use Rattle.std.specs.Prelude.{codes, bytes_eq, nat_le, is_none, option_map, option_and_then, if◌then◌else◌}
 use Rattle.std.specs.List.{slice_get}
 use Rattle.std.proofs.lemmas.Grind.{common_steps}
@@ -11,14 +11,14 @@ use Rattle.meaning.specs.BundlePlaces.{requires, broken_at, has, is_among, membe
 use Rattle.meaning.specs.HoleFaults.{text_hole_fault}
 use Rattle.meaning.specs.LineRules.{is_within, expression_rules}
 use Rattle.meaning.specs.ModelRules.{is_new_name}
-use Rattle.meaning.specs.TemplateRules.{NodeContext, id_in, kind_in, is_strategy, a_goal, a_strategy, check_in, scope_of, node_has_form, node_texts_fit, number_above, node_above, may_stand_under, stands_under_it, stands_in_place, has_its_members, first_query_fault, hole_fault_of_node, check_is_right, use_is_right, place_if_any, node_rules}
+use Rattle.meaning.specs.TemplateRules.{NodeContext, id_in, kind_in, is_strategy, a_goal, a_strategy, check_in, scope_of, node_has_form, node_texts_fit, node_above, may_stand_under, stands_under_it, stands_in_place, has_its_members, first_query_fault, hole_fault_of_node, check_is_right, use_is_right, place_if_any, node_rules}
 use Rattle.meaning.specs.ThinForm.{variable_of, has_only_holes, stands_under, is_plain_goal}
 use Rattle.meaning.proofs.EmptyLists.{both_true, with_test, nothing_in}
 use Rattle.meaning.proofs.ItemRules.{form_of_five}
 use Rattle.meaning.proofs.ThinLineRules.{named_member}
 use Rattle.meaning.proofs.ThinGoalRules.{GoalParts, goal_parts}
-use Rattle.meaning.proofs.HoleTexts.{opened}
-use Rattle.meaning.proofs.StrategyTests.{text_passes, element_goal_passes}
+use Rattle.meaning.specs.StrategyTests.{opened}
+use Rattle.meaning.specs.StrategyTests.{element_goal_passes}
 use Rattle.meaning.proofs.StrategyRules.{holes_told, name_right, after_form, only_first}
 
 same_text : (s : List ℕ) → bytes_eq s s ≡ true

@@ -1,31 +1,23 @@
 -- Texts whose braces all belong to one hole: they have a fault only where there are more than eight holes, and their parts are words and that hole.
-use Rattle.std.proofs.Common.{◌≡◌, refl, sym, ap, ◌∙◌, subst, ℕ, suc, ◌+◌, ◌≤◌, List, [], ◌∷◌, ◌++◌, map, length, Bool, true, false, not, ◌&&◌, ◌||◌, ◌==◌, Option, Some, None, arith}
-use Rattle.std.specs.Prelude.{⊤, codes, bytes_eq, nat_le, is_some, is_none, option_map, option_and_then, unwrap_or, if◌then◌else◌}
+use Rattle.std.proofs.Common.{◌≡◌, refl, sym, ap, ◌∙◌, subst, ℕ, suc, ◌+◌, ◌≤◌, List, [], ◌∷◌, ◌++◌, map, Bool, true, false, Option, Some, None, arith}
+use Rattle.std.specs.Prelude.{⊤, bytes_eq, nat_le, is_none, option_map, unwrap_or, if◌then◌else◌}
 use Rattle.std.proofs.lemmas.Bool.Decides.{nat_tests}
-use Rattle.std.proofs.lemmas.Grind.{common_steps}
 use Rattle.std.proofs.lemmas.Slice.Eq.{bytes_eq-Decides}
 use Rattle.meaning.specs.Models.{Model}
 use Rattle.meaning.specs.QueryTexts.{Scope}
-use Rattle.meaning.specs.Templates.{TextPart}
-use Rattle.meaning.specs.CaseFiles.{CasePart, words, count}
+use Rattle.meaning.specs.CaseFiles.{words, count}
 use Rattle.meaning.specs.TemplateTexts.{Mark, open_brace, close_brace, byte, mark_of, Segment, plain, longer_plain, hole_part, part_of, parts_of}
 use Rattle.meaning.specs.TemplateTexts as texts
 use Rattle.meaning.specs.BundlePlaces.{or_else}
 use Rattle.meaning.specs.HoleFaults.{hole_fault, outside_hole_fault, inside_hole_fault, text_hole_fault}
 use Rattle.meaning.specs.ThinForm.{outside_holes}
 use Rattle.meaning.specs.ThinForm as form
-use Rattle.meaning.specs.ThinCases.{NamePart, Literal, ElementName, strategy_part, goal_part}
+use Rattle.meaning.specs.StrategyTests.{opened, segments_of, strategy_piece, goal_piece}
+use Rattle.meaning.specs.ThinCases.{Literal, ElementName, strategy_part, goal_part}
 use Rattle.meaning.proofs.EmptyLists.{both_true}
 use Rattle.meaning.proofs.CutTrees.{Each}
 
 -- ---- how many holes
-
--- the braces that open
-abbrev pub opened : List Mark → ℕ
-opened [] = 0
-opened (open_brace ∷ ms) = suc (opened ms)
-opened (close_brace ∷ ms) = opened ms
-opened (byte c ∷ ms) = opened ms
 
 few_enough : (holes : ℕ) → holes ≤ 8 → true ≡ nat_le (holes + 0) 8
 few_enough holes l = grind (arith, nat_tests)
@@ -110,22 +102,9 @@ module _ (h : List ℕ) where
         let r = outside_own ms parts.1 in
         (texts.hole so_far ∷ r.0, ap (option_map (λ ss. texts.hole so_far ∷ ss)) r.1, ((bytes_eq-Decides so_far h).0 parts.0, r.2))
 
--- the segments of a text
-abbrev pub segments_of : List ℕ → List Segment
-segments_of s = unwrap_or (texts.outside_hole (map mark_of s)) []
-
 pub segments_own : (h s : List ℕ) → outside_holes h (map mark_of s) ≡ true → Each (IsOwn h) (segments_of s)
 segments_own h s e =
     let r = outside_own h (map mark_of s) e in subst (λ o. Each (IsOwn h) (unwrap_or o [])) (sym r.1) r.2
-
--- a strategy's segment: words, or the number of answers; a goal's: words, or the element's name
-abbrev pub strategy_piece : Segment → CasePart
-strategy_piece (plain s) = words s
-strategy_piece (texts.hole s) = count
-
-abbrev pub goal_piece : Segment → NamePart
-goal_piece (plain s) = Literal s
-goal_piece (texts.hole s) = ElementName
 
 module _ (m : Model) (scope : Scope) (h : List ℕ) where
   strategy_parts : (ss : List Segment) → hole_part m scope h ≡ strategy_part count → Each (IsOwn h) ss

@@ -40,7 +40,6 @@ pub mod ThinTableFits
 pub mod ThinCasesRead
 pub mod EachTexts
 pub mod HoleTexts
-pub mod StrategyTests
 pub mod StrategyRules
 pub mod ElementGoalRules
 pub mod StrategyNodes

@@ -1,25 +1,20 @@
 -- The one template of a bundle: that it breaks no rule and has nodes of a form is what plain tests say, where they say it of its nodes.
-use Rattle.std.proofs.Common.{◌≡◌, refl, sym, ap, ◌∙◌, ℕ, ◌+◌, List, [], ◌∷◌, ◌++◌, map, length, Bool, true, false, not, ◌&&◌, ◌||◌, ◌==◌, Option, Some, None, arith}
-use Rattle.std.specs.Prelude.{codes, is_some, option_and_then, unwrap_or}
-use Rattle.std.specs.List.{list_all}
+use Rattle.std.proofs.Common.{◌≡◌, refl, sym, ap, ◌∙◌, ℕ, List, [], ◌∷◌, ◌++◌, length, Bool, true, false, not, ◌&&◌, ◌||◌, ◌==◌, arith}
+use Rattle.std.specs.Prelude.{codes}
 use Rattle.std.proofs.lemmas.Grind.{common_steps}
 use Rattle.meaning.specs.Texts.{flat, numbered, is_name}
-use Rattle.meaning.specs.Documents.{Document, as_list, member_of, list_at, truth_at}
+use Rattle.meaning.specs.Documents.{Document, list_at}
 use Rattle.meaning.specs.Models.{Model}
-use Rattle.meaning.specs.QueryTexts.{Scope}
-use Rattle.meaning.specs.TemplateTexts.{mark_of, byte}
-use Rattle.meaning.specs.BundlePlaces.{Part, Templates, Params, Nodes, BundleFault, Broken, requires, broken_at, faults_at, faults_of_items, faults_of_items_in, is_list_value, has, if_there, needs, may_have, name_in, member_within, text_of_member}
-use Rattle.meaning.specs.HoleFaults.{outside_hole_fault, text_hole_fault}
-use Rattle.meaning.specs.LineRules.{is_within, expression_rules}
-use Rattle.meaning.specs.ModelRules.{is_new_name, faults_in_item}
-use Rattle.meaning.specs.TemplateRules.{templates_in, template_has_form, last_has_no_parameters, has_nodes, template_rules, parameter_rules, NodeContext, context_of, id_in, kind_in, is_goal, is_strategy, a_goal, KindWord, check_in, scope_of, node_has_form, node_texts_fit, stands_in_place, has_its_members, first_query_fault, hole_fault_of_node, check_is_right, use_is_right, place_if_any, node_rules, node_faults, template_faults}
-use Rattle.meaning.specs.ThinForm.{none_in, no_brace, has_no_holes, has_no_more_members, is_plain_goal, is_one_goal, only_template}
-use Rattle.meaning.specs.ThinTests.{empty_or_absent, goal_passes, one_goal_passes, template_passes, one_template_passes}
-use Rattle.meaning.proofs.EmptyLists.{both_true, absorbed, same_both, nothing_in, nothing_in_both, nothing_at, nothing_there}
-use Rattle.meaning.proofs.ItemRules.{form_of_four, form_of_five}
+use Rattle.meaning.specs.BundlePlaces.{Part, Templates, Params, Nodes, BundleFault, Broken, requires, faults_at, faults_of_items, faults_of_items_in, is_list_value, needs, may_have, name_in}
+use Rattle.meaning.specs.ModelRules.{faults_in_item}
+use Rattle.meaning.specs.TemplateRules.{templates_in, template_has_form, last_has_no_parameters, has_nodes, template_rules, parameter_rules, context_of, node_rules, node_faults, template_faults}
+use Rattle.meaning.specs.ThinForm.{none_in, only_template}
+use Rattle.meaning.specs.ThinTests.{empty_or_absent}
+use Rattle.meaning.proofs.EmptyLists.{absorbed, same_both, nothing_in, nothing_in_both, nothing_at, nothing_there}
+use Rattle.meaning.proofs.ItemRules.{form_of_four}
 use Rattle.meaning.proofs.ThinLineRules.{not_none}
 use Rattle.meaning.proofs.ThinGoalRules.{listed_member}
-use Rattle.meaning.proofs.PlainTypes.{absent, empty_list, not_true}
+use Rattle.meaning.proofs.PlainTypes.{empty_list}
 
 and_false : (a : Bool) → (a && false) ≡ false
 and_false true = refl

@@ -1,28 +1,26 @@
 -- The plain tests of a thin bundle say neither more nor less than that no rule is broken, and that the form is thin.
-use Rattle.std.proofs.Common.{◌≡◌, refl, sym, ap, ◌∙◌, ℕ, List, [], ◌∷◌, ◌++◌, map, length, Bool, true, false, ◌&&◌, ◌==◌, arith}
-use Rattle.std.specs.Prelude.{codes, if◌then◌else◌}
+use Rattle.std.proofs.Common.{◌≡◌, refl, sym, ap, ◌∙◌, ℕ, List, [], ◌∷◌, map, length, Bool, true, false, ◌&&◌, ◌==◌, arith}
+use Rattle.std.specs.Prelude.{codes}
 use Rattle.std.specs.List.{list_all}
 use Rattle.std.proofs.lemmas.Grind.{common_steps}
 use Rattle.meaning.specs.Texts.{is_name}
 use Rattle.meaning.specs.Documents.{Document, list_at}
 use Rattle.meaning.specs.Models.{model_of}
-use Rattle.meaning.specs.BundlePlaces.{Bundle, BundleFault, requires, faults_at, is_table_value, is_list_value, needs, may_have, name_in, member_within}
-use Rattle.meaning.specs.LineRules.{line_in, feature_names_in, feature_has_form, line_faults}
+use Rattle.meaning.specs.BundlePlaces.{is_list_value, needs}
+use Rattle.meaning.specs.LineRules.{line_in, feature_names_in, line_faults}
 use Rattle.meaning.specs.ModelRules.{model_in, model_faults}
 use Rattle.meaning.specs.TemplateRules.{templates_in, template_faults}
-use Rattle.meaning.specs.BundleRules.{bundle_has_form, is_one, bundle_rules, no_table, top_faults, faults_of_readers, bundle_faults, first_fault}
-use Rattle.meaning.specs.ThinForm.{none_in, line_is_thin, model_is_thin, nodes_are_thin, only_template, is_thin}
-use Rattle.meaning.specs.Stages.{keeps_rules, built_form}
-use Rattle.meaning.specs.ThinTests.{features_pass, bundle_passes, line_passes, model_passes}
-use Rattle.meaning.proofs.EmptyLists.{both_true, same_both, nothing_in, nothing_in_both, none_is_first, nothing_at}
-use Rattle.meaning.proofs.ItemRules.{items_have_names}
+use Rattle.meaning.specs.ThinForm.{line_is_thin, model_is_thin, nodes_are_thin, only_template, is_thin}
+use Rattle.meaning.specs.Stages.{built_form}
+use Rattle.meaning.specs.ThinTests.{bundle_passes, line_passes, model_passes}
+use Rattle.meaning.proofs.EmptyLists.{same_both, nothing_in}
 use Rattle.meaning.proofs.ThinLineRules.{line_is_thin_line, not_none}
 use Rattle.meaning.proofs.ThinModelRules.{model_is_thin_model}
 use Rattle.meaning.proofs.ThinRules.{rules_by_part, line_has_names}
 use Rattle.meaning.proofs.PlainTypes.{empty_list, plain_type_names}
 use Rattle.meaning.proofs.ThinDocuments.{passing_model}
 use Rattle.meaning.proofs.OneTemplateRules.{templates_are_thin}
-use Rattle.meaning.proofs.StrategyTests.{nodes_pass, one_thin_template_passes, type_names_in, thin_bundle_passes}
+use Rattle.meaning.specs.StrategyTests.{nodes_pass, one_thin_template_passes, type_names_in, thin_bundle_passes}
 use Rattle.meaning.proofs.StrategyNodes.{thin_nodes_are}
 
 -- ---- the templates, over a model that passes

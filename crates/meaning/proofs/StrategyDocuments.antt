@@ -1,37 +1,37 @@
 -- The thin bundle that a document with one goal or with a strategy is.
-use Rattle.std.proofs.Common.{◌≡◌, refl, sym, ap, ◌∙◌, subst, ℕ, zero, suc, ◌+◌, ◌<◌, ◌≤◌, List, [], ◌∷◌, ◌++◌, map, length, Bool, true, false, not, ◌&&◌, ◌||◌, Option, Some, None, arith}
+use Rattle.std.proofs.Common.{◌≡◌, refl, sym, ap, ◌∙◌, ℕ, suc, List, [], ◌∷◌, ◌++◌, map, Bool, true, false, not, ◌&&◌, Some, None, arith}
 use Rattle.std.specs.Prelude.{codes, bytes_eq, nat_le, option_map, option_and_then, unwrap_or, if◌then◌else◌}
-use Rattle.std.specs.List.{list_all}
 use Rattle.std.proofs.lemmas.Grind.{common_steps}
 use Rattle.std.proofs.lemmas.Slice.Eq.{bytes_eq-Decides}
 use Rattle.meaning.specs.Texts.{is_name, place_of}
 use Rattle.meaning.specs.Documents.{Document, text_at, list_at}
-use Rattle.meaning.specs.Features.{feature_names, line_of}
+use Rattle.meaning.specs.Features.{line_of}
 use Rattle.meaning.specs.Models.{Model, model_of, number_in, text_if}
-use Rattle.meaning.specs.QueryTexts.{Scope, type_number}
+use Rattle.meaning.specs.QueryTexts.{type_number}
 use Rattle.meaning.specs.Cases.{Goal, Strategy}
-use Rattle.meaning.specs.Templates.{Template, annotates}
-use Rattle.meaning.specs.TemplateTexts.{Placed, mark_of, kind_of, scope_for, placed, place_under, parameter_of, nodes_after, template_of, templates_of}
-use Rattle.meaning.specs.Derivation.{Bundle, bundle_of}
+use Rattle.meaning.specs.Templates.{Template}
+use Rattle.meaning.specs.TemplateTexts.{Placed, mark_of, placed, parameter_of, nodes_after, template_of, templates_of}
+use Rattle.meaning.specs.Derivation.{bundle_of}
 use Rattle.meaning.specs.BundlePlaces.{has, is_list_value, needs, may_have, name_in, is_among, member_within}
 use Rattle.meaning.specs.LineRules.{line_in, feature_names_in}
 use Rattle.meaning.specs.ModelRules.{model_in}
-use Rattle.meaning.specs.TemplateRules.{templates_in, template_has_form, node_has_form, id_in, kind_named, kind_in, is_strategy, KindWord, a_goal, a_strategy, a_solution, a_context, an_assumption, a_justification, a_use, no_kind}
+use Rattle.meaning.specs.TemplateRules.{templates_in, template_has_form, node_has_form, id_in, kind_named, is_strategy, a_goal, a_strategy, a_solution, a_context, an_assumption, a_justification, a_use, no_kind}
 use Rattle.meaning.specs.ThinForm.{none_in, has_only_holes, stands_under, variable_of, is_plain_strategy, is_plain_goal}
 use Rattle.meaning.specs.ThinCases.{bundle, thin_line, thin_node, thin_template, goal_words, strategy_part, goal_part, each_of_type, enumeration_nodes}
-use Rattle.meaning.specs.ThinTests.{bundle_passes, line_passes, model_passes, goal_passes, first_name, other_names, first_text, goal_text, template_name, empty_or_absent}
+use Rattle.meaning.specs.ThinTests.{bundle_passes, line_passes, model_passes, goal_passes, first_name, other_names, first_text, goal_text, template_name}
 use Rattle.meaning.proofs.EmptyLists.{both_true}
 use Rattle.meaning.proofs.NameTexts.{place_among}
 use Rattle.meaning.proofs.ThinLineRules.{named_member}
-use Rattle.meaning.proofs.PlainTypes.{absent, empty_list, plain_type_names}
+use Rattle.meaning.proofs.PlainTypes.{absent, empty_list}
 use Rattle.meaning.proofs.ThinGoalRules.{GoalParts, goal_parts, passing_goal, goal_has_name}
 use Rattle.meaning.proofs.ThinRules.{line_has_names}
 use Rattle.meaning.proofs.ThinDocuments.{goal_word, goal_is, names_of_line, passing_line, passing_model, bundle_with}
 use Rattle.meaning.proofs.EachTexts.{each_query}
-use Rattle.meaning.proofs.HoleTexts.{opened, segments_of, strategy_piece, goal_piece, strategy_text_parts, goal_text_parts}
-use Rattle.meaning.proofs.StrategyTests.{type_of_each, text_passes, strategy_passes, element_goal_passes, nodes_pass, thin_template_passes, one_thin_template_passes, type_names_in, enumeration_in, enumeration_of_template, thin_bundle_passes, thin_bundle}
+use Rattle.meaning.proofs.HoleTexts.{strategy_text_parts, goal_text_parts}
+use Rattle.meaning.specs.StrategyTests.{opened, segments_of, strategy_piece, goal_piece}
+use Rattle.meaning.specs.StrategyTests.{type_of_each, text_passes, strategy_passes, element_goal_passes, nodes_pass, thin_template_passes, one_thin_template_passes, type_names_in, enumeration_in, enumeration_of_template, thin_bundle_passes, thin_bundle}
 use Rattle.meaning.proofs.StrategyRules.{StrategyParts, strategy_parts, told_each, name_part}
-use Rattle.meaning.proofs.StrategyNodes.{StrategyFacts, strategy_facts, ids, placed_goal, placed_strategy, placed_last, strategy_scope, last_scope}
+use Rattle.meaning.proofs.StrategyNodes.{strategy_facts, ids, placed_goal, placed_strategy, placed_last, strategy_scope, last_scope}
 use Rattle.meaning.proofs.StrategyBundleRules.{known_types}
 
 same_text : (s : List ℕ) → bytes_eq s s ≡ true

@@ -1,29 +1,29 @@
 -- The nodes of a template with a strategy: that they break no rule and are thin is what their tests say.
-use Rattle.std.proofs.Common.{◌≡◌, refl, sym, ap, ◌∙◌, subst, ℕ, zero, suc, ◌+◌, List, [], ◌∷◌, ◌++◌, map, take, Bool, true, false, not, ◌&&◌, ◌||◌, Option, Some, None, arith}
+use Rattle.std.proofs.Common.{◌≡◌, refl, sym, ap, ◌∙◌, ℕ, zero, suc, List, [], ◌∷◌, ◌++◌, map, take, Bool, true, false, not, ◌&&◌, ◌||◌, Option, Some, None, arith}
 use Rattle.std.specs.Prelude.{codes, bytes_eq, option_map, option_and_then, unwrap_or, if◌then◌else◌}
 use Rattle.std.specs.List.{slice_get}
 use Rattle.std.proofs.lemmas.Grind.{common_steps}
 use Rattle.std.proofs.lemmas.Slice.Eq.{bytes_eq-Decides}
 use Rattle.meaning.specs.Texts.{is_name, place_of}
-use Rattle.meaning.specs.Documents.{Document, as_text, member_of, text_at, list_at}
+use Rattle.meaning.specs.Documents.{Document, member_of, text_at, list_at}
 use Rattle.meaning.specs.Models.{Model, text_if}
 use Rattle.meaning.specs.Queries.{Query}
 use Rattle.meaning.specs.QueryTexts.{Scope, type_number, query_of}
 use Rattle.meaning.specs.Templates.{annotates}
 use Rattle.meaning.specs.TemplateTexts.{Placed, scope_under, scope_for, kind_of, query_at, place_under, nodes_after, parameter_of}
-use Rattle.meaning.specs.BundlePlaces.{Nodes, requires, faults_at, faults_of_items_in, is_among, text_of_member}
-use Rattle.meaning.specs.TemplateRules.{NodeContext, context_of, node_has_form, id_in, kind_in, scope_of, or_empty, a_goal, node_rules}
-use Rattle.meaning.specs.ThinForm.{none_in, variable_of, has_no_holes, has_only_holes, stands_under, is_plain_strategy, is_plain_goal, nodes_are_thin}
+use Rattle.meaning.specs.BundlePlaces.{Nodes, faults_at, faults_of_items_in, is_among}
+use Rattle.meaning.specs.TemplateRules.{NodeContext, context_of, node_has_form, id_in, scope_of, or_empty, node_rules}
+use Rattle.meaning.specs.ThinForm.{variable_of, has_no_holes, has_only_holes, stands_under, is_plain_strategy, is_plain_goal, nodes_are_thin}
 use Rattle.meaning.specs.ThinCases.{each_of_type}
 use Rattle.meaning.specs.ThinTests.{goal_passes}
 use Rattle.meaning.proofs.EmptyLists.{both_true, same_both, nothing_in, nothing_in_both, nothing_in_flat, nothing_at}
 use Rattle.meaning.proofs.NameTexts.{place_among}
 use Rattle.meaning.proofs.ThinLineRules.{named_member}
-use Rattle.meaning.proofs.PlainTypes.{absent, empty_list}
+use Rattle.meaning.proofs.PlainTypes.{absent}
 use Rattle.meaning.proofs.ThinGoalRules.{GoalParts, goal_parts, passing_goal, goal_has_name, goal_is_plain_goal}
 use Rattle.meaning.proofs.ThinDocuments.{goal_word}
 use Rattle.meaning.proofs.EachTexts.{each_query}
-use Rattle.meaning.proofs.StrategyTests.{type_of_each, text_passes, strategy_passes, element_goal_passes, nodes_pass}
+use Rattle.meaning.specs.StrategyTests.{type_of_each, text_passes, strategy_passes, element_goal_passes, nodes_pass}
 use Rattle.meaning.proofs.StrategyRules.{StrategyParts, strategy_parts, told_each, strategy_is_plain}
 use Rattle.meaning.proofs.ElementGoalRules.{element_goal_is_plain}
 

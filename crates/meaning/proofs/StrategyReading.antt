@@ -1,5 +1,5 @@
 -- The case of a thin bundle document reads back, so its bytes are a build of the bundle.
-use Rattle.std.proofs.Common.{◌≡◌, refl, sym, ap, ◌∙◌, subst, ℕ, suc, ◌+◌, ◌<◌, ◌≤◌, List, [], ◌∷◌, ◌++◌, map, length, Bool, true, false, not, ◌&&◌, ◌==◌, Option, Some, None, arith}
+use Rattle.std.proofs.Common.{◌≡◌, refl, sym, ap, ◌∙◌, subst, ℕ, ◌≤◌, List, [], ◌∷◌, ◌++◌, map, length, Bool, true, false, not, ◌&&◌, ◌==◌, Option, Some, None, arith}
 use Rattle.std.specs.Prelude.{codes, nat_le, option_map, unwrap_or, if◌then◌else◌}
 use Rattle.std.specs.List.{list_all}
 use Rattle.std.proofs.lemmas.Bool.Decides.{nat_tests}
@@ -7,7 +7,6 @@ use Rattle.std.proofs.lemmas.Grind.{common_steps}
 use Rattle.std.proofs.lemmas.List.{length-map}
 use Rattle.meaning.specs.Texts.{is_name, is_text}
 use Rattle.meaning.specs.Documents.{Document, Json, document_of, of_json, text_at, list_at}
-use Rattle.meaning.specs.CaseFiles.{CasePart}
 use Rattle.meaning.specs.CaseBytes.{case_data, case_bytes}
 use Rattle.meaning.specs.CaseReading.{bad_names, part_is_text}
 use Rattle.meaning.specs.TemplateTexts.{Mark, open_brace, close_brace, byte, mark_of, Segment, plain, longer_plain}
@@ -21,8 +20,8 @@ use Rattle.meaning.specs.Derivation.{bundle_of}
 use Rattle.meaning.specs.Answers.{IsBuilt, IsBuildAnswer, built, ShowsCase, Prints}
 use Rattle.meaning.specs.Stages.{building_thin}
 use Rattle.meaning.specs.ThinForm.{variable_of}
-use Rattle.meaning.specs.ThinCases.{ThinElement, thin_names, thin_case, condition, bundle}
-use Rattle.meaning.specs.ThinTests.{bundle_passes, items_pass, element_passes, model_passes, goal_passes, first_text, goal_text, first_name, other_names, thin_element_in}
+use Rattle.meaning.specs.ThinCases.{thin_case}
+use Rattle.meaning.specs.ThinTests.{bundle_passes, goal_passes, first_text, goal_text, other_names, thin_element_in}
 use Rattle.meaning.proofs.EmptyLists.{both_true, all_true}
 use Rattle.meaning.proofs.CutTrees.{Each}
 use Rattle.meaning.proofs.NameTexts.{name_is_text}
@@ -32,9 +31,9 @@ use Rattle.meaning.proofs.ThinRules.{line_features, line_has_names}
 use Rattle.meaning.proofs.ThinDocuments.{names_split, known_conditions}
 use Rattle.meaning.proofs.ThinReading.{names_are_proper}
 use Rattle.meaning.proofs.ThinCasesRead.{name_part_is_text, PartsAreTexts, IsProperThin, thin_is_built}
-use Rattle.meaning.proofs.HoleTexts.{segments_of, strategy_piece, goal_piece}
-use Rattle.meaning.proofs.StrategyTests.{strategy_passes, element_goal_passes, nodes_pass, one_thin_template_passes, type_names_in, enumeration_in, enumeration_of_template, thin_bundle_passes, thin_bundle}
-use Rattle.meaning.proofs.StrategyDocuments.{text_facts, strategy_text_passes, last_facts, passing_thin_template, ThinPassingParts, thin_passing_parts, thin_is_bundle}
+use Rattle.meaning.specs.StrategyTests.{segments_of, strategy_piece, goal_piece}
+use Rattle.meaning.specs.StrategyTests.{strategy_passes, element_goal_passes, nodes_pass, one_thin_template_passes, type_names_in, enumeration_in, enumeration_of_template, thin_bundle_passes, thin_bundle}
+use Rattle.meaning.proofs.StrategyDocuments.{text_facts, strategy_text_passes, last_facts, passing_thin_template, thin_passing_parts, thin_is_bundle}
 
 -- ---- the segments of a text are texts
 

@@ -1,35 +1,35 @@
 -- The rules of a plain strategy and of the goal below it: that none is broken, and that they are plain, is what their tests say.
-use Rattle.std.proofs.Common.{◌≡◌, refl, sym, ap, ◌∙◌, subst, ℕ, suc, ◌+◌, ◌≤◌, List, [], ◌∷◌, ◌++◌, map, length, take, Bool, true, false, not, ◌&&◌, ◌||◌, ◌==◌, Option, Some, None, length-append, arith}
+use Rattle.std.proofs.Common.{◌≡◌, refl, sym, ap, ◌∙◌, ℕ, suc, ◌+◌, List, [], ◌∷◌, ◌++◌, map, length, take, Bool, true, false, not, ◌&&◌, ◌||◌, ◌==◌, Option, Some, None, length-append, arith}
 use Rattle.std.specs.Prelude.{codes, bytes_eq, nat_le, is_some, is_none, option_map, option_and_then, unwrap_or, if◌then◌else◌}
 use Rattle.std.specs.List.{list_all, slice_get}
 use Rattle.std.proofs.lemmas.Bool.Decides.{nat_tests}
 use Rattle.std.proofs.lemmas.Grind.{common_steps}
 use Rattle.std.proofs.lemmas.Slice.Eq.{bytes_eq-Decides}
 use Rattle.meaning.specs.Texts.{is_name, is_text, is_word_byte, is_letter, begins_with_letter, place_of}
-use Rattle.meaning.specs.Documents.{Document, as_text, member_of, text_at, truth_at}
+use Rattle.meaning.specs.Documents.{Document, member_of, text_at, truth_at}
 use Rattle.meaning.specs.Models.{Model}
 use Rattle.meaning.specs.Queries.{Query}
 use Rattle.meaning.specs.QueryTexts.{Scope, variable_number, type_number, query_of}
 use Rattle.meaning.specs.QueryFaults.{query_fault}
 use Rattle.meaning.specs.TemplateTexts.{mark_of, cut_at_dot, variable_part, hole_part}
 use Rattle.meaning.specs.Templates.{Count, NameOf}
-use Rattle.meaning.specs.CaseFiles.{CasePart, count}
 use Rattle.meaning.specs.BundlePlaces.{Broken, requires, broken_at, has, if_some, is_among, member_within, text_within, text_of_member, or_else}
 use Rattle.meaning.specs.ExpressionFaults.{TextFault}
 use Rattle.meaning.specs.HoleFaults.{hole_fault, is_name_or_attribute, variable_hole_fault, text_hole_fault, is_word}
 use Rattle.meaning.specs.LineRules.{is_within, expression_rules}
 use Rattle.meaning.specs.ModelRules.{is_new_name}
-use Rattle.meaning.specs.TemplateRules.{NodeContext, id_in, kind_in, is_strategy, a_goal, a_strategy, KindWord, check_in, scope_of, node_has_form, node_texts_fit, node_form, number_above, node_above, may_stand_under, stands_under_it, stands_in_place, has_what_it_needs, has_nothing_else, undeveloped_is_right, each_has_variables, has_its_members, first_query_fault, hole_fault_of_node, check_is_right, use_is_right, place_if_any, node_rules}
-use Rattle.meaning.specs.ThinForm.{outside_holes, cut_at_colon, is_space_and_name, variable_of, has_only_holes, stands_under, has_no_more_members, is_plain_strategy, is_plain_goal}
-use Rattle.meaning.specs.ThinCases.{ElementName, each_of_type, strategy_part, goal_part}
+use Rattle.meaning.specs.TemplateRules.{NodeContext, id_in, kind_in, is_strategy, a_goal, a_strategy, KindWord, check_in, scope_of, node_has_form, node_texts_fit, node_above, may_stand_under, stands_under_it, stands_in_place, has_what_it_needs, has_nothing_else, undeveloped_is_right, query_has_variables, each_has_variables, or_empty, has_its_members, first_query_fault, hole_fault_of_node, check_is_right, use_is_right, place_if_any, node_rules}
+use Rattle.meaning.specs.ThinForm.{outside_holes, cut_at_colon, variable_of, has_only_holes, stands_under, is_plain_strategy}
+use Rattle.meaning.specs.ThinCases.{ElementName, each_of_type, goal_part}
 use Rattle.meaning.proofs.EmptyLists.{both_true, all_true, with_test, nothing_in}
 use Rattle.meaning.proofs.ItemRules.{form_of_five}
 use Rattle.meaning.proofs.NameTexts.{name_begins, name_has_word_bytes, name_is_short, name_is_text}
 use Rattle.meaning.proofs.ThinLineRules.{named_member}
 use Rattle.meaning.proofs.PlainTypes.{absent, not_true}
-use Rattle.meaning.proofs.EachTexts.{after_first, cut_back, space_back, each_query, each_fault}
-use Rattle.meaning.proofs.HoleTexts.{opened, few_holes}
-use Rattle.meaning.proofs.StrategyTests.{type_of_each, text_passes, strategy_passes, element_goal_passes}
+use Rattle.meaning.proofs.EachTexts.{each_text, cut_back, space_back, each_query, each_fault}
+use Rattle.meaning.proofs.HoleTexts.{few_holes}
+use Rattle.meaning.specs.StrategyTests.{opened}
+use Rattle.meaning.specs.StrategyTests.{type_of_each, strategy_passes}
 
 -- ---- a plain strategy
 
@@ -173,17 +173,21 @@ module _ (c : NodeContext) (types : List (List ℕ)) (known : map (λ d. d.name)
 
   each_adds : each_has_variables c (1, s) ≡ true
   each_adds =
-      ap (λ x. if_some (λ q. not (length q.0 == 0)) (option_and_then (query_of c.model x) (text_of_member (codes "each") s))) scope
-      ∙ ap (λ o. if_some (λ q. not (length q.0 == 0)) (option_and_then (query_of c.model []) o)) (told_each s p)
-      ∙ ap (if_some (λ q. not (length q.0 == 0))) (each_query (variable_of s) (type_of_each s) p.variable p.of_type c.model)
-      ∙ go (type_number c.model (type_of_each s))
+      let text = each_text (variable_of s) (type_of_each s) p.variable p.of_type in
+      ap (if_some (query_has_variables c 1)) (told_each s p)
+      ∙ ap (λ x. is_some (query_fault c.model x text) || not (length (or_empty (option_map (λ q. q.0) (query_of c.model x text))) == 0)) scope
+      ∙ ap (λ o. is_some (query_fault c.model [] text) || not (length (or_empty (option_map (λ q. q.0) o)) == 0))
+      (each_query (variable_of s) (type_of_each s) p.variable p.of_type c.model)
+      ∙ go (query_fault c.model [] text) (type_number c.model (type_of_each s)) (each_fault (variable_of s) (type_of_each s) p.variable p.of_type c.model)
     where
       read : ℕ → Scope × Query
       read n = ((variable_of s, n) ∷ [], each_of_type n)
 
-      go : (o : Option ℕ) → if_some (λ q. not (length q.0 == 0)) (option_map read o) ≡ true
-      go None = refl
-      go (Some n) = refl
+      go : (f : Option TextFault) (o : Option ℕ) → is_none f ≡ is_some o
+          → (is_some f || not (length (or_empty (option_map (λ q. q.0) (option_map read o))) == 0)) ≡ true
+      go None None h = cc
+      go None (Some n) h = refl
+      go (Some f) o h = refl
 
   strategy_members : has_its_members c (1, s) ≡ has (codes "text") s
   strategy_members =

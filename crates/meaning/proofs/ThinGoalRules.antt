@@ -1,24 +1,24 @@
--- The one template of a bundle with one goal: that it breaks no rule and is thin is what its plain tests say.
-use Rattle.std.proofs.Common.{◌≡◌, refl, sym, ap, ◌∙◌, ℕ, ◌+◌, List, [], ◌∷◌, ◌++◌, map, length, Bool, true, false, not, ◌&&◌, ◌||◌, ◌==◌, Option, Some, None, arith}
+-- The one node of a template with one goal: that it breaks no rule and is thin is what its plain tests say.
+use Rattle.std.proofs.Common.{◌≡◌, refl, sym, ap, ◌∙◌, ℕ, ◌+◌, List, [], ◌∷◌, ◌++◌, map, length, Bool, true, false, not, ◌&&◌, ◌==◌, Option, Some, None, arith}
 use Rattle.std.specs.Prelude.{codes, is_some, option_and_then, unwrap_or}
 use Rattle.std.specs.List.{list_all}
 use Rattle.std.proofs.lemmas.Grind.{common_steps}
-use Rattle.meaning.specs.Texts.{flat, numbered, is_name}
+use Rattle.meaning.specs.Texts.{is_name}
 use Rattle.meaning.specs.Documents.{Document, as_list, member_of, list_at, truth_at}
 use Rattle.meaning.specs.Models.{Model}
 use Rattle.meaning.specs.QueryTexts.{Scope}
 use Rattle.meaning.specs.TemplateTexts.{mark_of, byte}
-use Rattle.meaning.specs.BundlePlaces.{Part, Templates, Params, Nodes, BundleFault, Broken, requires, broken_at, faults_at, faults_of_items, faults_of_items_in, is_list_value, has, if_there, needs, may_have, name_in, member_within, text_of_member}
+use Rattle.meaning.specs.BundlePlaces.{Nodes, Broken, requires, broken_at, faults_at, faults_of_items_in, is_list_value, has, if_there, needs, may_have, name_in, member_within, text_of_member}
 use Rattle.meaning.specs.HoleFaults.{outside_hole_fault, text_hole_fault}
 use Rattle.meaning.specs.LineRules.{is_within, expression_rules}
-use Rattle.meaning.specs.ModelRules.{is_new_name, faults_in_item}
-use Rattle.meaning.specs.TemplateRules.{templates_in, template_has_form, last_has_no_parameters, has_nodes, template_rules, parameter_rules, NodeContext, context_of, id_in, kind_in, is_goal, is_strategy, a_goal, KindWord, check_in, scope_of, node_has_form, node_texts_fit, stands_in_place, has_its_members, first_query_fault, hole_fault_of_node, check_is_right, use_is_right, place_if_any, node_rules, node_faults, template_faults}
-use Rattle.meaning.specs.ThinForm.{none_in, no_brace, has_no_holes, has_no_more_members, is_plain_goal, is_one_goal, only_template}
-use Rattle.meaning.specs.ThinTests.{empty_or_absent, goal_passes, one_goal_passes, template_passes, one_template_passes}
-use Rattle.meaning.proofs.EmptyLists.{both_true, absorbed, with_test, nothing_in, nothing_in_both, nothing_at, nothing_there}
-use Rattle.meaning.proofs.ItemRules.{form_of_four, form_of_five}
+use Rattle.meaning.specs.ModelRules.{is_new_name}
+use Rattle.meaning.specs.TemplateRules.{template_has_form, NodeContext, id_in, kind_in, is_goal, is_strategy, a_goal, KindWord, check_in, scope_of, node_has_form, node_texts_fit, stands_in_place, has_its_members, first_query_fault, hole_fault_of_node, check_is_right, use_is_right, place_if_any, node_rules}
+use Rattle.meaning.specs.ThinForm.{none_in, no_brace, has_no_holes, has_no_more_members, is_plain_goal, is_one_goal}
+use Rattle.meaning.specs.ThinTests.{goal_passes, one_goal_passes, template_passes}
+use Rattle.meaning.proofs.EmptyLists.{both_true, with_test, nothing_in, nothing_in_both, nothing_at}
+use Rattle.meaning.proofs.ItemRules.{form_of_five}
 use Rattle.meaning.proofs.ThinLineRules.{not_none}
-use Rattle.meaning.proofs.PlainTypes.{absent, empty_list, not_true}
+use Rattle.meaning.proofs.PlainTypes.{absent, not_true}
 
 -- ---- a text with no brace has no hole
 
@@ -211,10 +211,6 @@ and_true : (a : Bool) → (a && true) ≡ a
 and_true true = refl
 and_true false = refl
 
-same_last : (a b g : Bool) → (g ≡ true → a ≡ b) → (a && g) ≡ (b && g)
-same_last a b true h = rw (h refl) refl
-same_last a b false h = and_false a ∙ sym (and_false b)
-
 -- a list with an item is a member that is a list
 pub listed_member : (k : List ℕ) (d : Document) → (length (list_at k d) == 0) ≡ false
     → (needs is_list_value k d ≡ true) × (may_have is_list_value k d ≡ true)
@@ -229,7 +225,7 @@ listed_member k d e = go (member_of k d) e
     go None e = absurd (let n : true ≡ false = e in cc)
     go (Some x) e = (told (as_list x) e, told (as_list x) e)
 
-nodes_are : (c : NodeContext) → c.nodes_before ≡ 0 → (ns : List Document)
+pub nodes_are : (c : NodeContext) → c.nodes_before ≡ 0 → (ns : List Document)
     → (nothing_in (faults_of_items_in Nodes 0 (node_rules c) ns) && is_one_goal ns) ≡ one_goal_passes ns
 nodes_are c first [] = refl
 nodes_are c first (g ∷ []) =
@@ -238,110 +234,9 @@ nodes_are c first (g ∷ []) =
     ∙ goal_is_plain_goal c g first
 nodes_are c first (g ∷ h ∷ hs) = and_false (nothing_in (faults_of_items_in Nodes 0 (node_rules c) (g ∷ h ∷ hs)))
 
-some_node : (ns : List Document) → one_goal_passes ns ≡ true → (length ns == 0) ≡ false
+pub some_node : (ns : List Document) → one_goal_passes ns ≡ true → (length ns == 0) ≡ false
 some_node [] e = absurd (let n : false ≡ true = e in cc)
 some_node (g ∷ gs) e = not_none (length gs)
-
-module _ (m : Model) (t : Document) where
-  no_parameter_faults : none_in (codes "params") t ≡ true → nothing_in (faults_of_items_in Params 0 (parameter_rules m t) (list_at (codes "params") t)) ≡ true
-  no_parameter_faults e = ap (λ ds. nothing_in (faults_of_items_in Params 0 (parameter_rules m t) ds)) (empty_list (list_at (codes "params") t) e)
-
-  -- the rules of the one template itself
-  template_is : nothing_in (faults_of_items Templates (template_rules (t ∷ [])) (t ∷ []))
-      ≡ ((template_has_form t && is_name (name_in t)) && (none_in (codes "params") t && has_nodes t))
-  unfolding template_rules
-  template_is =
-      nothing_in_both (faults_at Templates 0 0 (template_rules (t ∷ []) (0, t))) []
-      ∙ and_true (nothing_in (faults_at Templates 0 0 (template_rules (t ∷ []) (0, t))))
-      ∙ nothing_at Templates 0 0 (template_rules (t ∷ []) (0, t))
-      ∙ form_of_four 2 3 5 6 6 (template_has_form t) (is_name (name_in t)) true true (requires 23 (last_has_no_parameters (t ∷ []) (0, t)) ++ requires 24 (has_nodes t))
-      ∙ ap (λ b. (((template_has_form t && is_name (name_in t)) && true) && true) && b) (two (last_has_no_parameters (t ∷ []) (0, t)) (has_nodes t))
-      ∙ only (template_has_form t && is_name (name_in t)) (none_in (codes "params") t && has_nodes t)
-    where
-      two : (a b : Bool) → nothing_in (requires 23 a ++ requires 24 b) ≡ (a && b)
-      two true true = refl
-      two true false = refl
-      two false b = refl
-
-      only : (a b : Bool) → (((a && true) && true) && b) ≡ (a && b)
-      only true b = refl
-      only false b = refl
-
-  item_part : (part : Part) (k : List ℕ) (rules : ℕ × Document → List Broken)
-      → nothing_in (flat (λ x. faults_in_item part k rules x) ((0, t) ∷ [])) ≡ (may_have is_list_value k t && nothing_in (faults_of_items_in part 0 rules (list_at k t)))
-  item_part part k rules =
-      nothing_in_both (faults_in_item part k rules (0, t)) [] ∙ and_true (nothing_in (faults_in_item part k rules (0, t)))
-      ∙ nothing_in_both (faults_at part 0 0 (requires 2 (may_have is_list_value k t))) (faults_of_items_in part 0 rules (list_at k t))
-      ∙ ap (λ b. b && nothing_in (faults_of_items_in part 0 rules (list_at k t))) (nothing_there part 0 0 2 (may_have is_list_value k t))
-
-  -- the one template, with its parameters and nodes
-  pub one_template_is :
-      ((nothing_in (faults_of_items Templates (template_rules (t ∷ [])) (t ∷ []))
-      && nothing_in (flat (λ x. faults_in_item Params (codes "params") (parameter_rules m x.1) x) ((0, t) ∷ []))
-      && nothing_in (flat (node_faults m (t ∷ [])) ((0, t) ∷ [])))
-      && is_one_goal (list_at (codes "nodes") t)) ≡ template_passes t
-  one_template_is =
-      rw (template_is, item_part Params (codes "params") (parameter_rules m t), item_part Nodes (codes "nodes") (node_rules (context_of m (t ∷ []) (0, t))))
-      (turned (template_has_form t && is_name (name_in t)) (none_in (codes "params") t) (has_nodes t) (may_have is_list_value (codes "params") t)
-      (nothing_in (faults_of_items_in Params 0 (parameter_rules m t) (list_at (codes "params") t)))
-      (may_have is_list_value (codes "nodes") t) (nothing_in (faults_of_items_in Nodes 0 (node_rules (context_of m (t ∷ []) (0, t))) (list_at (codes "nodes") t)))
-      (is_one_goal (list_at (codes "nodes") t))
-      ∙ ap (λ b. ((template_has_form t && is_name (name_in t)) && (may_have is_list_value (codes "params") t && b) && (has_nodes t && may_have is_list_value (codes "nodes") t))
-      && (nothing_in (faults_of_items_in Nodes 0 (node_rules (context_of m (t ∷ []) (0, t))) (list_at (codes "nodes") t)) && is_one_goal (list_at (codes "nodes") t)))
-      (absorbed (nothing_in (faults_of_items_in Params 0 (parameter_rules m t) (list_at (codes "params") t))) (none_in (codes "params") t) no_parameter_faults)
-      ∙ ap (λ b. ((template_has_form t && is_name (name_in t)) && empty_or_absent (codes "params") t && (has_nodes t && may_have is_list_value (codes "nodes") t)) && b)
-      (nodes_are (context_of m (t ∷ []) (0, t)) refl (list_at (codes "nodes") t))
-      ∙ same_last ((template_has_form t && is_name (name_in t)) && empty_or_absent (codes "params") t && (has_nodes t && may_have is_list_value (codes "nodes") t))
-      ((template_has_form t && is_name (name_in t)) && empty_or_absent (codes "params") t && needs is_list_value (codes "nodes") t)
-      (one_goal_passes (list_at (codes "nodes") t))
-      (λ e. let some = some_node (list_at (codes "nodes") t) e in let listed = listed_member (codes "nodes") t some in
-      ap (λ b. (template_has_form t && is_name (name_in t)) && empty_or_absent (codes "params") t && b)
-      (same (may_have is_list_value (codes "nodes") t) (length (list_at (codes "nodes") t) == 0) (needs is_list_value (codes "nodes") t) listed.1 some listed.0)))
-    where
-      turned : (f n h a p y i o : Bool) → (((f && (n && h)) && (a && p) && (y && i)) && o) ≡ ((f && (a && (p && n)) && (h && y)) && (i && o))
-      turned f n h a p y i o = grind (arith, common_steps)
-
-      same : (y l n : Bool) → y ≡ true → l ≡ false → n ≡ true → ((not y || not l) && y) ≡ n
-      same y l n ey el en = rw (ey, el, en) refl
-
--- ---- all templates
-
-module _ (m : Model) (d : Document) where
-  -- the faults of templates, over the list
-  abbrev faults_over : List Document → List BundleFault
-  faults_over ts =
-      faults_at Templates 0 0 (requires 2 (may_have is_list_value (codes "templates") d)
-      ++ requires 23 (not (may_have is_list_value (codes "templates") d) || not (length ts == 0)))
-      ++ faults_of_items Templates (template_rules ts) ts
-      ++ flat (λ t. faults_in_item Params (codes "params") (parameter_rules m t.1) t) (numbered ts)
-      ++ flat (node_faults m ts) (numbered ts)
-
-  templates_over : (ts : List Document) → ((length ts == 0) ≡ false → (needs is_list_value (codes "templates") d ≡ true) × (may_have is_list_value (codes "templates") d ≡ true))
-      → (nothing_in (faults_over ts) && only_template is_one_goal ts) ≡ (needs is_list_value (codes "templates") d && one_template_passes ts)
-  templates_over [] h = and_false (nothing_in (faults_over [])) ∙ sym (and_false (needs is_list_value (codes "templates") d))
-  templates_over (t ∷ u ∷ us) h = and_false (nothing_in (faults_over (t ∷ u ∷ us))) ∙ sym (and_false (needs is_list_value (codes "templates") d))
-  templates_over (t ∷ []) h =
-      ap (λ b. b && is_one_goal (list_at (codes "nodes") t))
-      (four (faults_at Templates 0 0 (requires 2 (may_have is_list_value (codes "templates") d) ++ requires 23 (not (may_have is_list_value (codes "templates") d) || not (length (t ∷ []) == 0))))
-      (faults_of_items Templates (template_rules (t ∷ [])) (t ∷ []))
-      (flat (λ t. faults_in_item Params (codes "params") (parameter_rules m t.1) t) ((0, t) ∷ []))
-      (flat (node_faults m (t ∷ [])) ((0, t) ∷ [])))
-      ∙ ap (λ b. (((b && nothing_in (faults_of_items Templates (template_rules (t ∷ [])) (t ∷ [])))
-      && nothing_in (flat (λ t. faults_in_item Params (codes "params") (parameter_rules m t.1) t) ((0, t) ∷ [])))
-      && nothing_in (flat (node_faults m (t ∷ [])) ((0, t) ∷ []))) && is_one_goal (list_at (codes "nodes") t)) list_is
-      ∙ one_template_is m t
-      ∙ ap (λ b. b && template_passes t) (sym (h (not_none 0)).0)
-    where
-      four : (xs ys zs us : List BundleFault) → nothing_in (xs ++ ys ++ zs ++ us) ≡ (((nothing_in xs && nothing_in ys) && nothing_in zs) && nothing_in us)
-      four xs ys zs us = rw (nothing_in_both (xs ++ ys ++ zs) us, nothing_in_both (xs ++ ys) zs, nothing_in_both xs ys) refl
-
-      list_is : nothing_in (faults_at Templates 0 0 (requires 2 (may_have is_list_value (codes "templates") d) ++ requires 23 (not (may_have is_list_value (codes "templates") d) || not (length (t ∷ []) == 0)))) ≡ true
-      list_is = rw ((h (not_none 0)).1) refl
-
-  pub templates_are_one_goal : (nothing_in (template_faults m d) && only_template is_one_goal (templates_in d))
-      ≡ (needs is_list_value (codes "templates") d && one_template_passes (templates_in d))
-  unfolding template_faults
-  templates_are_one_goal = templates_over (templates_in d) (listed_member (codes "templates") d)
 
 -- the tests of a template say that it has no parameters and one goal
 pub passing_template : (t : Document) → template_passes t ≡ true → (none_in (codes "params") t ≡ true) × (one_goal_passes (list_at (codes "nodes") t) ≡ true)

@@ -5,20 +5,21 @@ use Rattle.std.specs.List.{list_all}
 use Rattle.std.proofs.lemmas.Grind.{common_steps}
 use Rattle.meaning.specs.Texts.{is_name}
 use Rattle.meaning.specs.Documents.{Document, list_at}
-use Rattle.meaning.specs.Models.{model_of}
+use Rattle.meaning.specs.Models.{Model, model_of}
 use Rattle.meaning.specs.BundlePlaces.{Bundle, BundleFault, requires, faults_at, is_table_value, is_list_value, needs, may_have, name_in, member_within}
 use Rattle.meaning.specs.LineRules.{line_in, feature_names_in, feature_has_form, line_faults}
 use Rattle.meaning.specs.ModelRules.{model_in, model_faults}
-use Rattle.meaning.specs.TemplateRules.{templates_in, template_faults}
+use Rattle.meaning.specs.TemplateRules.{templates_in, context_of, template_faults}
 use Rattle.meaning.specs.BundleRules.{bundle_has_form, is_one, bundle_rules, no_table, top_faults, faults_of_readers, bundle_faults, first_fault}
 use Rattle.meaning.specs.ThinForm.{none_in, line_is_thin, model_is_thin, is_one_goal, only_template, is_thin_goal}
 use Rattle.meaning.specs.Stages.{keeps_rules, built_form}
-use Rattle.meaning.specs.ThinTests.{features_pass, bundle_passes, line_passes, model_passes, one_template_passes, one_goal_bundle_passes}
+use Rattle.meaning.specs.ThinTests.{features_pass, bundle_passes, line_passes, model_passes, one_goal_passes, one_template_passes, one_goal_bundle_passes}
 use Rattle.meaning.proofs.EmptyLists.{both_true, same_both, nothing_in, nothing_in_both, none_is_first, nothing_at}
 use Rattle.meaning.proofs.ItemRules.{items_have_names}
 use Rattle.meaning.proofs.ThinLineRules.{line_is_thin_line}
 use Rattle.meaning.proofs.ThinModelRules.{model_is_thin_model}
-use Rattle.meaning.proofs.ThinGoalRules.{templates_are_one_goal}
+use Rattle.meaning.proofs.ThinGoalRules.{some_node, nodes_are}
+use Rattle.meaning.proofs.OneTemplateRules.{templates_are_thin}
 
 -- ---- the bundle itself, and the readers
 
@@ -83,6 +84,11 @@ line_has_names line e = features_have_names (list_at (codes "features") line) (l
 
 -- ---- all of it
 
+one_goal_templates : (m : Model) (d : Document) → (nothing_in (template_faults m d) && only_template is_one_goal (templates_in d))
+    ≡ (needs is_list_value (codes "templates") d && one_template_passes (templates_in d))
+one_goal_templates m d =
+    templates_are_thin is_one_goal one_goal_passes some_node m (λ t a. nodes_are (context_of m (t ∷ []) (0, t)) refl (list_at (codes "nodes") t)) d
+
 pub one_goal_passes_rules : (d : Document) → one_goal_bundle_passes d ≡ built_form is_thin_goal d
 unfolding one_goal_bundle_passes is_thin_goal model_faults
 one_goal_passes_rules d =
@@ -92,7 +98,7 @@ one_goal_passes_rules d =
     ∙ ap (λ b. bundle_passes d && b)
     (same_both _ _ _ _ (line_is_thin_line d) (λ e.
     same_both _ _ _ _ (model_is_thin_model (feature_names_in d) (model_in d) (line_has_names (line_in d) e)) (λ i.
-    templates_are_one_goal (model_of (feature_names_in d) d) d)))
+    one_goal_templates (model_of (feature_names_in d) d) d)))
     ∙ turned_back (bundle_passes d) (line_passes (line_in d)) (model_passes (feature_names_in d) (model_in d)) (needs is_list_value (codes "templates") d) (one_template_passes (templates_in d)))
   where
     turned : (b l m t lt mt tt : Bool) → ((b && ((l && m) && t)) && ((lt && mt) && tt)) ≡ (b && ((l && lt) && ((m && mt) && (t && tt))))

@@ -30,6 +30,7 @@ pub mod BundleRules
 pub mod ThinForm
 pub mod ThinCases
 pub mod ThinTests
+pub mod StrategyTests
 pub mod BuiltForms
 pub mod Rules
 pub mod RuleViolations

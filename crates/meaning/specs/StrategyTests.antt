@@ -1,18 +1,47 @@
 -- The plain tests of a template with a strategy: a goal, a strategy over the elements of one type, and a goal for each of them.
-use Rattle.std.specs.Prelude.{ℕ, List, [], ◌∷◌, ◌++◌, map, Bool, false, not, ◌&&◌, nat_le, Option, Some, None, codes}
+use Rattle.std.specs.Prelude.{ℕ, suc, List, [], ◌∷◌, ◌++◌, map, Bool, false, not, ◌&&◌, nat_le, Option, Some, None, unwrap_or, codes}
 use Rattle.meaning.specs.Texts.{is_name}
 use Rattle.meaning.specs.Documents.{Document, text_at, list_at}
 use Rattle.meaning.specs.Models.{model_of, number_in}
-use Rattle.meaning.specs.TemplateTexts.{mark_of}
+use Rattle.meaning.specs.TemplateTexts.{Mark, open_brace, close_brace, byte, mark_of, Segment, plain}
+use Rattle.meaning.specs.TemplateTexts as texts
+use Rattle.meaning.specs.CaseFiles.{CasePart, words, count}
 use Rattle.meaning.specs.BundlePlaces.{is_list_value, has, needs, name_in, is_among, member_within}
 use Rattle.meaning.specs.LineRules.{line_in, feature_names_in}
 use Rattle.meaning.specs.ModelRules.{model_in}
 use Rattle.meaning.specs.TemplateRules.{templates_in, template_has_form, node_has_form, id_in}
 use Rattle.meaning.specs.ThinForm.{cut_at_colon, variable_of, has_only_holes, stands_under, is_plain_strategy, is_plain_goal}
 use Rattle.meaning.specs.ThinTests.{empty_or_absent, bundle_passes, line_passes, model_passes, goal_passes, first_name, other_names, goal_text, template_name, thin_element_in}
-use Rattle.meaning.specs.ThinCases.{ThinBundle, Enumeration}
-use Rattle.meaning.proofs.EachTexts.{after_first}
-use Rattle.meaning.proofs.HoleTexts.{opened, segments_of, strategy_piece, goal_piece}
+use Rattle.meaning.specs.ThinCases.{ThinBundle, Enumeration, NamePart, Literal, ElementName}
+
+-- ---- texts with one kind of hole
+
+-- all but the first byte
+abbrev pub after_first : List ℕ → List ℕ
+after_first [] = []
+after_first (c ∷ cs) = cs
+
+-- the braces that open
+abbrev pub opened : List Mark → ℕ
+opened [] = 0
+opened (open_brace ∷ ms) = suc (opened ms)
+opened (close_brace ∷ ms) = opened ms
+opened (byte c ∷ ms) = opened ms
+
+-- the segments of a text
+abbrev pub segments_of : List ℕ → List Segment
+segments_of s = unwrap_or (texts.outside_hole (map mark_of s)) []
+
+-- a strategy's segment: words, or the number of answers; a goal's: words, or the element's name
+abbrev pub strategy_piece : Segment → CasePart
+strategy_piece (plain s) = words s
+strategy_piece (texts.hole s) = count
+
+abbrev pub goal_piece : Segment → NamePart
+goal_piece (plain s) = Literal s
+goal_piece (texts.hole s) = ElementName
+
+-- ---- the three nodes
 
 -- the type that `each` names, after the colon and a space
 abbrev pub type_of_each : Document → List ℕ
@@ -63,7 +92,7 @@ thin_bundle_passes d =
 
 -- ---- the thin bundle that such a document is
 
--- a strategy's segment of a text: words, or the number of answers; a goal's: words, or the element's name
+-- what the three nodes enumerate
 abbrev pub enumeration_in : (types : List (List ℕ)) → List Document → Option Enumeration
 enumeration_in types (g ∷ s ∷ d ∷ []) = Some (record {
   of_type = number_in types (type_of_each s);

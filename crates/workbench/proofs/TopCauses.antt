@@ -1,0 +1,197 @@
+-- From what the parts of the top call did to the causes that its promise gives.
+use Rattle.std.proofs.Common.{◌≡◌, refl, sym, ap, ◌∙◌, subst, inl, inr, ℕ, ◌<◌, lit≤, List, [], ◌∷◌, length, arith}
+use Rattle.std.specs.Prelude.{◌⊎◌, Option, Some, None}
+use Rattle.std.proofs.lemmas.List.{take_all, append-nil}
+use Rattle.std.specs.List.{slice_get}
+use Rattle.meaning.specs.Counts.{appended}
+use Rattle.meaning.specs.Statuses as meaning
+use Rattle.meaning.specs.Statuses.{status_line}
+use Rattle.meaning.specs.Words.{Build, File, files_of, bundle_file}
+use Rattle.meaning.specs.Answers.{Answer, Prints}
+use Rattle.meaning.specs.Stages.{building_one_goal}
+use Rattle.meaning.specs.TopCall.{Outside, Says, IfTold, AgreeWith, Answered, Cause, OutKept, LinesOf, NoLimit, PlainPromise}
+use Rattle.workbench.specs.declared.status.Status.{Status}
+use Rattle.workbench.specs.declared.status.Status.TheVariants as status
+use Rattle.workbench.specs.StatusView.{status_view}
+use Rattle.workbench.specs.Run.{shelf_of, AnswersBundle, IsFileOf, StopsFile, Stops, Printed}
+
+-- ---- what is said
+
+pub said_whole : (old new : Option (List ℕ)) (faults faults_new : ℕ) (bytes : List ℕ) → new ≡ appended old bytes → Says old new faults faults_new bytes
+said_whole old new faults faults_new bytes e = record {
+  count = length bytes;
+  grew = e ∙ ap (appended old) (sym (take_all (length bytes) bytes (omega arith)));
+  whole = inl (omega arith);
+}
+
+nothing_more : (old : Option (List ℕ)) → old ≡ appended old []
+nothing_more None = refl
+nothing_more (Some bytes) = ap Some (sym (append-nil bytes))
+
+pub nothing_said : (old : Option (List ℕ)) (faults : ℕ) → Says old old faults faults (status_line meaning.Done)
+unfolding status_line
+nothing_said old faults = record { count = 0; grew = nothing_more old; whole = inl (lit≤ tt) }
+
+-- ---- the file of a bundle
+
+module _ (words : List (List ℕ)) (before after : Outside) (name : List ℕ) (limit : ℕ)
+    (reads : building_one_goal.reads words ≡ Some (record { task = Build name; node_limit = limit })) where
+  pub answers_file : (answer : Answer) → IsFileOf (before.holds name) (λ bytes. AnswersBundle name bytes answer) → Answered building_one_goal words before answer
+  answers_file answer f = record {
+    invocation = record { task = Build name; node_limit = limit };
+    reads = reads;
+    files = f.bytes ∷ [];
+    agree = (f.agree, (f.short, tt));
+    is = f.fact;
+  }
+
+  none_before : (k : ℕ) → k ≡ 0 → (j : ℕ) → j < k → ⊥
+  none_before k e j l = omega (arith, e, l)
+
+  first_file : (k : ℕ) → k ≡ 0 → slice_get (bundle_file name ∷ []) k ≡ Some (bundle_file name)
+  first_file k e = rw e refl
+
+  pub stops_file : (s : Status) → StopsFile name before after s → Stops words before after s
+  stops_file status.Done f = absurd f.fact
+  stops_file status.BadWords f = absurd f.fact
+  stops_file (status.BadBundle fault) f = record { answer = answers_file _ f }
+  stops_file (status.TooLong file) f = record {
+    invocation = record { task = Build name; node_limit = limit };
+    reads = reads;
+    file = bundle_file name;
+    is_file = first_file file f.0;
+    earlier = λ j g l e. absurd (none_before file f.0 j l);
+    place = f.1.place;
+    taken = f.1.taken;
+    longer = f.1.longer;
+  }
+  stops_file (status.ReadFault file) f = record {
+    invocation = record { task = Build name; node_limit = limit };
+    reads = reads;
+    file = bundle_file name;
+    is_file = first_file file f.0;
+    earlier = λ j g l e. absurd (none_before file f.0 j l);
+    cause = f.1;
+  }
+  stops_file status.WriteFault f = absurd f.fact
+  stops_file status.NoMemory f = tt
+  stops_file status.Unsupported f = record { answer = answers_file _ f }
+
+-- ---- the outside around the shelf
+
+-- what is told of the files is all that an answer rests on
+agree_with : (o p : Outside) → o.holds ≡ p.holds → (fs : List File) (files : List (List ℕ)) → AgreeWith o fs files → AgreeWith p fs files
+agree_with o p e [] [] a = tt
+agree_with o p e [] (s ∷ ss) a = absurd a
+agree_with o p e (f ∷ fs) [] a = absurd a
+agree_with o p e (f ∷ fs) (s ∷ ss) a = (subst (λ h. IfTold (h f.name) s) e a.0, (a.1.0, agree_with o p e fs ss a.1.1))
+
+module _ (words : List (List ℕ)) (before after : Outside) where
+  shelf : Outside
+  shelf = shelf_of before.holds before.faults before.next before.given
+
+  shelf_after : Outside
+  shelf_after = shelf_of after.holds after.faults after.next after.given
+
+  pub answered_outside : (answer : Answer) → Answered building_one_goal words (shelf_of before.holds before.faults before.next before.given) answer
+      → Answered building_one_goal words before answer
+  answered_outside answer a = record {
+    invocation = a.invocation;
+    reads = a.reads;
+    files = a.files;
+    agree = agree_with (shelf_of before.holds before.faults before.next before.given) before refl (files_of a.invocation.task) a.files a.agree;
+    is = a.is;
+  }
+
+  cause_outside : (s : Status) → Stops words (shelf_of before.holds before.faults before.next before.given) (shelf_of after.holds after.faults after.next after.given) s
+      → Cause building_one_goal words before after NoLimit (status_line (status_view s)) (status_view s)
+  cause_outside status.Done h = absurd h
+  cause_outside status.BadWords h = h
+  cause_outside (status.BadBundle fault) h = record { answer = answered_outside _ h.answer }
+  cause_outside (status.TooLong file) h = record {
+    invocation = h.invocation;
+    reads = h.reads;
+    file = h.file;
+    is_file = h.is_file;
+    earlier = h.earlier;
+    place = h.place;
+    taken = h.taken;
+    longer = h.longer;
+  }
+  cause_outside (status.ReadFault file) h = record {
+    invocation = h.invocation;
+    reads = h.reads;
+    file = h.file;
+    is_file = h.is_file;
+    earlier = h.earlier;
+    cause = h.cause;
+  }
+  cause_outside status.WriteFault h = absurd h
+  cause_outside status.NoMemory h = tt
+  cause_outside status.Unsupported h = record { answer = answered_outside _ h.answer }
+
+  out_kept : (s : Status) → Stops words (shelf_of before.holds before.faults before.next before.given) (shelf_of after.holds after.faults after.next after.given) s
+      → after.out ≡ before.out → OutKept before after (status_view s)
+  out_kept status.Done h e = tt
+  out_kept status.BadWords h e = e
+  out_kept (status.BadBundle fault) h e = e
+  out_kept (status.TooLong file) h e = e
+  out_kept (status.ReadFault file) h e = e
+  out_kept status.WriteFault h e = tt
+  out_kept status.NoMemory h e = e
+  out_kept status.Unsupported h e = e
+
+  lines_of : (s : Status) → LinesOf (status_view s) (status_line (status_view s))
+  lines_of status.Done = refl
+  lines_of status.BadWords = refl
+  lines_of (status.BadBundle fault) = refl
+  lines_of (status.TooLong file) = refl
+  lines_of (status.ReadFault file) = refl
+  lines_of status.WriteFault = refl
+  lines_of status.NoMemory = refl
+  lines_of status.Unsupported = refl
+
+  pub stopped_promise : (s : Status) → Stops words (shelf_of before.holds before.faults before.next before.given) (shelf_of after.holds after.faults after.next after.given) s
+      → after.out ≡ before.out → Says before.err after.err before.err_faults after.err_faults (status_line (status_view s))
+      → PlainPromise building_one_goal words before after (status_view s)
+  stopped_promise s h e said = record {
+    lines = status_line (status_view s);
+    cause = cause_outside s h;
+    out = out_kept s h e;
+    said = lines_of s;
+    err = said;
+  }
+
+  -- the status, or want of memory in its place
+  pub refused_promise : (s r : Status) → Stops words (shelf_of before.holds before.faults before.next before.given) (shelf_of after.holds after.faults after.next after.given) s
+      → (r ≡ s) ⊎ (r ≡ status.NoMemory) → after.out ≡ before.out → Says before.err after.err before.err_faults after.err_faults (status_line (status_view r))
+      → PlainPromise building_one_goal words before after (status_view r)
+  refused_promise s r h (inl same) e said =
+      stopped_promise r (subst (λ x. Stops words (shelf_of before.holds before.faults before.next before.given) (shelf_of after.holds after.faults after.next after.given) x) (sym same) h) e said
+  refused_promise s r h (inr none) e said =
+      stopped_promise r (subst (λ x. Stops words (shelf_of before.holds before.faults before.next before.given) (shelf_of after.holds after.faults after.next after.given) x) (sym none) tt) e said
+
+  pub printed_promise : (s : Status) (bytes : List ℕ) → Answered building_one_goal words (shelf_of before.holds before.faults before.next before.given) (Prints bytes)
+      → Printed s before.out after.out before.out_faults after.out_faults bytes
+      → Says before.err after.err before.err_faults after.err_faults (status_line (status_view s))
+      → PlainPromise building_one_goal words before after (status_view s)
+  printed_promise status.Done bytes a p said = record {
+    lines = status_line meaning.Done;
+    cause = record { bytes = bytes; answer = answered_outside (Prints bytes) a; printed = p };
+    out = tt;
+    said = refl;
+    err = said;
+  }
+  printed_promise status.WriteFault bytes a p said = record {
+    lines = status_line meaning.WriteFault;
+    cause = record { bytes = bytes; answer = answered_outside (Prints bytes) a; count = p.0; printed = p.1; cause = p.2 };
+    out = tt;
+    said = refl;
+    err = said;
+  }
+  printed_promise status.BadWords bytes a p said = absurd p
+  printed_promise (status.BadBundle fault) bytes a p said = absurd p
+  printed_promise (status.TooLong file) bytes a p said = absurd p
+  printed_promise (status.ReadFault file) bytes a p said = absurd p
+  printed_promise status.NoMemory bytes a p said = absurd p
+  printed_promise status.Unsupported bytes a p said = absurd p

@@ -1,0 +1,5 @@
+pub mod PlainWords
+pub mod WordsView
+pub mod StatusView
+pub mod ItemNames
+pub mod Run

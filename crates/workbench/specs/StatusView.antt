@@ -1,0 +1,15 @@
+-- What a status of the code is in the words of the definitions.
+use Rattle.workbench.specs.declared.status.Status.{Status}
+use Rattle.workbench.specs.declared.status.Status.TheVariants as status
+use Rattle.meaning.specs.Statuses as meaning
+use Rattle.doc_tree.specs.Places.{fault_of}
+
+abbrev pub status_view : Status → meaning.Status
+status_view status.Done = meaning.Done
+status_view status.BadWords = meaning.BadWords
+status_view (status.BadBundle fault) = meaning.BadBundle (fault_of fault)
+status_view (status.TooLong file) = meaning.TooLong file
+status_view (status.ReadFault file) = meaning.ReadFault file
+status_view status.WriteFault = meaning.WriteFault
+status_view status.NoMemory = meaning.NoMemory
+status_view status.Unsupported = meaning.Unsupported

@@ -1,0 +1,128 @@
+//! The one call that reads the words and the files, and answers.
+
+ghost use Rattle.std.specs.Prelude.{◌≡◌, ◌⊎◌, ◌≤◌, IfOk, IfErr, map, string_bytes, length, Some, None};
+ghost use Rattle.meaning.specs.Counts.{NoFewer};
+ghost use Rattle.meaning.specs.Answers.{Prints};
+ghost use Rattle.meaning.specs.Stages.{building_one_goal};
+ghost use Rattle.meaning.specs.Statuses.{status_line};
+ghost use Rattle.meaning.specs.TopCall.{Answered, Says, PlainPromise, Kept};
+ghost use Rattle.workbench.specs.StatusView.{status_view};
+ghost use Rattle.workbench.specs.Run.{outside_of, shelf_of, Stops, StopsFile, IsFileOf, AnswersBundle, Printed};
+
+use crate::building::build;
+use crate::status::Status;
+use crate::words::read_words;
+use outside::{Failed, ReadStop, Shelf, Sink, read_whole, write_whole};
+use std::alloc::Global;
+
+/// The most bytes of a bundle file.
+const BUNDLE_LIMIT: u64 = 16_777_216;
+
+/// Reads the words and the files that they name, answers on `out`, and says on `err` why there is no answer.
+///
+/// `words` has the program's name first. The whole answer is made before the first put on `out`.
+pub fn run<F: Shelf, O: Sink, E: Sink>(
+    alloc: Global,
+    words: &[String],
+    shelf: &mut F,
+    out: &mut O,
+    err: &mut E,
+) -> Status
+    ensures promise { PlainPromise building_one_goal (map string_bytes words.now)
+        (outside_of (F.holds shelf.old) (F.faults shelf.old) (F.next shelf.old) (F.given shelf.old) (O.got out.old) (O.faults out.old) (E.got err.old) (E.faults err.old))
+        (outside_of (F.holds shelf.new) (F.faults shelf.new) (F.next shelf.new) (F.given shelf.new) (O.got out.new) (O.faults out.new) (E.got err.new) (E.faults err.new))
+        (status_view result) }
+    ensures kept { Kept
+        (outside_of (F.holds shelf.old) (F.faults shelf.old) (F.next shelf.old) (F.given shelf.old) (O.got out.old) (O.faults out.old) (E.got err.old) (E.faults err.old))
+        (outside_of (F.holds shelf.new) (F.faults shelf.new) (F.next shelf.new) (F.given shelf.new) (O.got out.new) (O.faults out.new) (E.got err.new) (E.faults err.new)) }
+{
+    match answer(alloc, words, shelf) {
+        Ok(bytes) => print(out, err, &bytes),
+        Err(status) => refuse(alloc, err, status),
+    }
+}
+
+/// The whole answer, or the status that stands in its place, before anything is written.
+fn answer<F: Shelf>(alloc: Global, words: &[String], shelf: &mut F) -> Result<Vec<u8>, Status>
+    ensures answered { IfOk result (λ v. Answered building_one_goal (map string_bytes words.now)
+        (shelf_of (F.holds shelf.old) (F.faults shelf.old) (F.next shelf.old) (F.given shelf.old)) (Prints v.items)) }
+    ensures stopped { IfErr result (Stops (map string_bytes words.now)
+        (shelf_of (F.holds shelf.old) (F.faults shelf.old) (F.next shelf.old) (F.given shelf.old))
+        (shelf_of (F.holds shelf.new) (F.faults shelf.new) (F.next shelf.new) (F.given shelf.new))) }
+    ensures no_fewer_faults { NoFewer (F.faults shelf.old) (F.faults shelf.new) }
+    ensures no_less_given { NoFewer (F.given shelf.old) (F.given shelf.new) }
+    ensures same_files { F.holds shelf.new ≡ F.holds shelf.old }
+{
+    match read_words(words) {
+        Some(invocation) => match build_file(alloc, shelf, invocation.task.bundle()) {
+            Ok(bytes) => Ok(bytes),
+            Err(status) => Err(status),
+        },
+        None => Err(Status::BadWords),
+    }
+}
+
+/// The case of the bundle in a file.
+fn build_file<F: Shelf>(alloc: Global, shelf: &mut F, name: &str) -> Result<Vec<u8>, Status>
+    ensures built { IfOk result (λ v. IsFileOf (F.holds shelf.old name.now) (λ bytes. AnswersBundle name.now bytes (Prints v.items))) }
+    ensures stopped { IfErr result (StopsFile name.now
+        (shelf_of (F.holds shelf.old) (F.faults shelf.old) (F.next shelf.old) (F.given shelf.old))
+        (shelf_of (F.holds shelf.new) (F.faults shelf.new) (F.next shelf.new) (F.given shelf.new))) }
+    ensures no_fewer_faults { NoFewer (F.faults shelf.old) (F.faults shelf.new) }
+    ensures no_less_given { NoFewer (F.given shelf.old) (F.given shelf.new) }
+    ensures same_files { F.holds shelf.new ≡ F.holds shelf.old }
+{
+    match read_whole(alloc, shelf, name, BUNDLE_LIMIT) {
+        Ok(bytes) => build(alloc, name, &bytes),
+        Err(ReadStop::Failed) => Err(Status::ReadFault(0)),
+        Err(ReadStop::TooLong) => Err(Status::TooLong(0)),
+        Err(ReadStop::NoMemory) => Err(Status::NoMemory),
+    }
+}
+
+/// Writes the answer, and a line where that fails.
+#[tactic(auto, unfolding(meaning::specs::Statuses::status_line))]
+fn print<O: Sink, E: Sink>(out: &mut O, err: &mut E, bytes: &[u8]) -> Status
+    ensures printed { Printed result (O.got out.old) (O.got out.new) (O.faults out.old) (O.faults out.new) bytes.now }
+    ensures said { Says (E.got err.old) (E.got err.new) (E.faults err.old) (E.faults err.new) (status_line (status_view result)) }
+    ensures no_fewer_faults { O.faults out.old ≤ O.faults out.new }
+    ensures no_fewer_err_faults { E.faults err.old ≤ E.faults err.new }
+{
+    match write_whole(out, bytes) {
+        Ok(()) => Status::Done,
+        Err(Failed) => {
+            say(err, "plcase: output not written\n");
+            Status::WriteFault
+        }
+    }
+}
+
+/// Says the line of a status, and that there is no memory where there is none for the line.
+#[tactic(auto, unfolding(meaning::specs::Statuses::status_line))]
+fn refuse<E: Sink>(alloc: Global, err: &mut E, status: Status) -> Status
+    ensures same { (result ≡ status) ⊎ (result ≡ Status.NoMemory) }
+    ensures said { Says (E.got err.old) (E.got err.new) (E.faults err.old) (E.faults err.new) (status_line (status_view result)) }
+    ensures no_fewer_err_faults { E.faults err.old ≤ E.faults err.new }
+{
+    match status.line(alloc) {
+        Ok(line) => {
+            say(err, &line);
+            status
+        }
+        Err(_) => {
+            say(err, "plcase: no memory\n");
+            Status::NoMemory
+        }
+    }
+}
+
+/// Gives a line to the error output. A fault there changes nothing.
+fn say<E: Sink>(err: &mut E, line: &str)
+    ensures said { Says (E.got err.old) (E.got err.new) (E.faults err.old) (E.faults err.new) line.now }
+    ensures no_fewer_err_faults { E.faults err.old ≤ E.faults err.new }
+{
+    match write_whole(err, line.as_bytes()) {
+        Ok(()) => {}
+        Err(Failed) => {}
+    }
+}
