@@ -1,0 +1,9 @@
+pub mod Questions
+pub mod Answers
+pub mod Applier
+pub mod Store
+pub mod Least
+pub mod Diagrams
+pub mod Tables
+pub mod Table
+pub mod Leaving
