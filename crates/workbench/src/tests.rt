@@ -11,12 +11,17 @@ const SMALLEST_CASE: &str =
     "{\"case\":1,\"features\":[\"R\"],\"nodes\":[{\"key\":\"0\",\"kind\":\"goal\",\"text\":[\"Safe\"],\"when\":2}],\"relations\":[],\"systems\":[],\"table\":[[0,0,1]],\"title\":\"T\",\"valid\":2}\n";
 
 /// Bundles with the cases that they become, to the byte.
-const BUILT: [(&str, &str); 6] = [
+const BUILT: [(&str, &str); 7] = [
     (SMALLEST, SMALLEST_CASE),
     // other members, another order, and what counts as absent
     (
         "{\"extra\":[null,1.5],\"title\":\"T\",\"templates\":[{\"nodes\":[{\"kind\":\"goal\",\"undeveloped\":false,\"text\":\"Safe\",\"id\":\"g\",\"note\":7}],\"name\":\"Top\",\"params\":[]}],\"model\":{},\"line\":{\"rules\":[],\"features\":[{\"name\":\"R\"}]},\"bundle\":1}",
         SMALLEST_CASE,
+    ),
+    // a name and a title as long as they may be
+    (
+        "{\"bundle\":1,\"title\":\"tttttttttttttttttttttttttttttttttttttttttttttttttttttttttttttttttttttttttttttttttttttttttttttttttttttttttttttttttttttttttttttttttttttttttttttttttttttttttttttttttttttttttttttttttttttttttttttttttttttttttttttttttttttttttttttttttttttttttttttttttttttttttttttttttttttttttttttttttttttttttttttttttttttttttttttttttttttttttttttttttttttttttttttttttttttttttttttttttttttttttttttttttttttttttttttttttttttttttttttttttttttttttttttttttttttttttttttttttttttttttttttttttttttttttttttttttttttttttttttttttttttttttttttttttttttttttttttttt\",\"line\":{\"features\":[{\"name\":\"Raaaaaaaaaaaaaaaaaaaaaaaaaaaaaaaaaaaaaaaaaaaaaaaaaaaaaaaaaaaaaaa\"}]},\"templates\":[{\"name\":\"Top\",\"nodes\":[{\"id\":\"g\",\"kind\":\"goal\",\"text\":\"Safe\"}]}]}",
+        "{\"case\":1,\"features\":[\"Raaaaaaaaaaaaaaaaaaaaaaaaaaaaaaaaaaaaaaaaaaaaaaaaaaaaaaaaaaaaaaa\"],\"nodes\":[{\"key\":\"0\",\"kind\":\"goal\",\"text\":[\"Safe\"],\"when\":2}],\"relations\":[],\"systems\":[],\"table\":[[0,0,1]],\"title\":\"tttttttttttttttttttttttttttttttttttttttttttttttttttttttttttttttttttttttttttttttttttttttttttttttttttttttttttttttttttttttttttttttttttttttttttttttttttttttttttttttttttttttttttttttttttttttttttttttttttttttttttttttttttttttttttttttttttttttttttttttttttttttttttttttttttttttttttttttttttttttttttttttttttttttttttttttttttttttttttttttttttttttttttttttttttttttttttttttttttttttttttttttttttttttttttttttttttttttttttttttttttttttttttttttttttttttttttttttttttttttttttttttttttttttttttttttttttttttttttttttttttttttttttttttttttttttttttttttt\",\"valid\":2}\n",
     ),
     // a text with nothing in it
     (
@@ -41,7 +46,22 @@ const BUILT: [(&str, &str); 6] = [
 ];
 
 /// Bundles that are refused, with their status and its line.
-const REFUSED: [(&str, u8, &str); 18] = [
+const REFUSED: [(&str, u8, &str); 21] = [
+    (
+        "{\"bundle\":1,\"title\":\"T\",\"line\":{\"features\":[{\"name\":\"Raaaaaaaaaaaaaaaaaaaaaaaaaaaaaaaaaaaaaaaaaaaaaaaaaaaaaaaaaaaaaaab\"}]},\"templates\":[{\"name\":\"Top\",\"nodes\":[{\"id\":\"g\",\"kind\":\"goal\",\"text\":\"Safe\"}]}]}",
+        16,
+        "plcase: not built yet\n",
+    ),
+    (
+        "{\"bundle\":1,\"title\":\"ttttttttttttttttttttttttttttttttttttttttttttttttttttttttttttttttttttttttttttttttttttttttttttttttttttttttttttttttttttttttttttttttttttttttttttttttttttttttttttttttttttttttttttttttttttttttttttttttttttttttttttttttttttttttttttttttttttttttttttttttttttttttttttttttttttttttttttttttttttttttttttttttttttttttttttttttttttttttttttttttttttttttttttttttttttttttttttttttttttttttttttttttttttttttttttttttttttttttttttttttttttttttttttttttttttttttttttttttttttttttttttttttttttttttttttttttttttttttttttttttttttttttttttttttttttttttttttttttt\",\"line\":{\"features\":[{\"name\":\"R\"}]},\"templates\":[{\"name\":\"Top\",\"nodes\":[{\"id\":\"g\",\"kind\":\"goal\",\"text\":\"Safe\"}]}]}",
+        16,
+        "plcase: not built yet\n",
+    ),
+    (
+        "{\"bundle\":1,\"title\":\"T\",\"line\":{\"features\":[{\"name\":\"R\"}]},\"templates\":[{\"name\":\"Top\",\"nodes\":[{\"id\":\"g\",\"kind\":\"goal\",\"text\":\"ttttttttttttttttttttttttttttttttttttttttttttttttttttttttttttttttttttttttttttttttttttttttttttttttttttttttttttttttttttttttttttttttttttttttttttttttttttttttttttttttttttttttttttttttttttttttttttttttttttttttttttttttttttttttttttttttttttttttttttttttttttttttttttttttttttttttttttttttttttttttttttttttttttttttttttttttttttttttttttttttttttttttttttttttttttttttttttttttttttttttttttttttttttttttttttttttttttttttttttttttttttttttttttttttttttttttttttttttttttttttttttttttttttttttttttttttttttttttttttttttttttttttttttttttttttttttttttttttt\"}]}]}",
+        16,
+        "plcase: not built yet\n",
+    ),
     ("", 3, "plcase: bundle rule B1 at document 0 0 0\n"),
     ("{", 3, "plcase: bundle rule B1 at document 0 0 0\n"),
     ("[1]", 3, "plcase: bundle rule B1 at document 0 0 0\n"),
@@ -310,5 +330,59 @@ fn a_bundle_past_its_limit_is_too_long(rt: HostRuntime) -> Result<(), Fail> {
         b"plcase: file 0 too long\n".as_slice()
     );
     assert_eq!(rt; ended.out.as_slice(), b"".as_slice());
+    Ok(())
+}
+
+/// A bundle with so many features, and so many elements that stand under them in turn.
+fn bundle_of(alloc: Global, features: u32, elements: u32) -> Result<String, AllocError>
+    requires { 0 < features }
+{
+    let mut text = String::from_str(
+        alloc,
+        "{\"bundle\":1,\"title\":\"T\",\"line\":{\"features\":[{\"name\":\"F0\"}",
+    )?;
+    for feature in 1..features {
+        let item = format!(in alloc; ",{{\"name\":\"F{feature}\",\"parent\":\"F0\"}}")?;
+        text.push_str(&item)?;
+    }
+    text.push_str("]},\"model\":{\"types\":[{\"name\":\"N\"}],\"elements\":[")?;
+    for element in 0..elements {
+        let feature = element % features;
+        let comma = if element == 0 { "" } else { "," };
+        let item = format!(in alloc;
+            "{comma}{{\"name\":\"e{element}\",\"type\":\"N\",\"when\":\"F{feature}\"}}"
+        )?;
+        text.push_str(&item)?;
+    }
+    text.push_str(
+        "]},\"templates\":[{\"name\":\"Top\",\"nodes\":[{\"id\":\"g\",\"kind\":\"goal\",\"text\":\"All\"},",
+    )?;
+    text.push_str(
+        "{\"id\":\"s\",\"kind\":\"strategy\",\"under\":\"g\",\"text\":\"Over {#}\",\"each\":\"n: N\"},",
+    )?;
+    text.push_str(
+        "{\"id\":\"c\",\"kind\":\"goal\",\"under\":\"s\",\"text\":\"Handle {n.name}\"}]}]}",
+    )?;
+    Ok(text)
+}
+
+/// Numbers of features and elements, with the status.
+const SIZES: [(u32, u32, u8); 4] = [(256, 2_048, 0), (257, 1, 16), (2, 2_049, 16), (1, 3, 0)];
+
+#[test]
+fn lines_and_models_end_at_their_limits(rt: HostRuntime) -> Result<(), Fail> {
+    for (features, elements, code) in SIZES {
+        assert!(rt; features > 0);
+        let bundle = bundle_of(rt.alloc(), features, elements)?;
+        let ended = run_over(
+            rt.alloc(),
+            &["build", "bundle.json"],
+            bundle.as_bytes(),
+            (NONE, NONE, NONE),
+            1_000_000,
+        )?;
+        assert_eq!(rt; ended.code, code, "at {features} {elements}");
+        assert_eq!(rt; ended.out.is_empty(), code != 0, "at {features} {elements}");
+    }
     Ok(())
 }
