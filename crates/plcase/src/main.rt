@@ -2,10 +2,9 @@
 #![tactic(auto)]
 
 use outside::{FileShelf, StreamSink};
-use std::alloc::Global;
 use std::process::ExitCode;
 use std::{env, io};
-use workbench::{Status, run};
+use workbench::run;
 
 /// The words of the command line, the program's name first.
 fn words(rt: &HostRuntime) -> io::Result<Vec<String>> {
@@ -20,10 +19,12 @@ fn main(rt: HostRuntime) -> ExitCode {
     let mut shelf = FileShelf::new(&rt);
     let mut out = StreamSink::new(io::writer(&rt));
     let mut err = StreamSink::new(rt.stderr());
-    let status = match words(&rt) {
-        Ok(words) => run(rt.alloc(), &words, &mut shelf, &mut out, &mut err),
-        Err(_) => Status::BadWords,
+    // words that can't be had, as those that are no UTF-8, are none
+    let words = match words(&rt) {
+        Ok(words) => words,
+        Err(_) => Vec::new(rt.alloc()),
     };
+    let status = run(rt.alloc(), &words, &mut shelf, &mut out, &mut err);
     ExitCode::from(status.code())
 }
 
