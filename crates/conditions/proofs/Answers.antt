@@ -1,5 +1,5 @@
 -- How the answers of a question's two branches become its own.
-use Rattle.std.proofs.Common.{◌≡◌, ◌≢◌, ℕ, suc, ◌+◌, ◌-◌, ◌*◌, ◌^◌, ◌<◌, ◌≤◌, Bool, true, false, cond, eqb, length, Result, Ok, Err, IfOk, OnErr, IsErr, Option, Some, None, IfSome, MatchOption, arith, sym, ap, ◌∙◌, refl, subst, ⊎_elim}
+use Rattle.std.proofs.Common.{◌≡◌, ◌≢◌, ℕ, suc, ◌+◌, ◌-◌, ◌*◌, ◌^◌, ◌<◌, ◌≤◌, Bool, true, false, cond, eqb, length, Result, Ok, Err, OnErr, IsErr, Option, Some, None, IfSome, MatchOption, arith, sym, ap, ◌∙◌, refl, ⊎_elim}
 use Rattle.std.proofs.Math.Nat.{pow-suc}
 use Rattle.std.proofs.Math.Pow.{pow_mono}
 use Rattle.std.proofs.lemmas.Nat.{pow_pos}
@@ -10,13 +10,13 @@ use Rattle.node_pool.specs.declared.node.NodeNo.{NodeNo}
 use Rattle.node_pool.specs.declared.pool.Full.{Full}
 use Rattle.node_pool.specs.Nodes.{value, top_of, triple, IsReduced, Extends}
 use Rattle.node_pool.specs.Regions.{Region, IsRegion, IsFull}
-use Rattle.node_pool.specs.Functions.{pool_of, function_of, branch, put, Keeps}
+use Rattle.node_pool.specs.Functions.{pool_of, function_of, branch, put}
 use Rattle.node_pool.specs.Made.{Makes, Grows}
 use Rattle.node_pool.proofs.Reduced.{top_of-constant, top_of-inner, top_of-extends, Extends-refl, Extends-trans}
 use Rattle.node_pool.proofs.Values.{stands_at, value-constant}
 use Rattle.node_pool.proofs.Canonical.{top_of-within}
 use Rattle.conditions.specs.declared.question.Question.{Question}
-use Rattle.conditions.specs.Questions.{function_asked, first_of, IsAsked, IsSplit}
+use Rattle.conditions.specs.Questions.{first_of, IsAsked, IsSplit}
 use Rattle.conditions.specs.Answers.{asked_in, IsAnswer, IsRefused, IsProgress, Answers, IsHalved, Joins}
 use Rattle.conditions.proofs.Cofactors.{StartsAt, IsBranch, Lacks-branch, Adds-branch, Adds-agree, Lacks-agree, Adds-then}
 use Rattle.conditions.proofs.Questions.{function_asked-extends, function_asked-starts, IsAsked-extends, first_of-extends}

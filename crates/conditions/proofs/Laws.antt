@@ -1,17 +1,15 @@
 -- The laws of the algebra of conditions, for diagrams.
-use Rattle.std.proofs.Common.{◌≡◌, ◌≢◌, ℕ, ◌+◌, ◌<◌, ◌≤◌, ◌^◌, Bool, true, false, not, ◌&&◌, ◌||◌, cond, eqb, List, length, Result, Ok, Err, IfOk, IfErr, slice_index_or, arith, sym, ap, ◌∙◌, refl, subst, ⊎_elim}
+use Rattle.std.proofs.Common.{◌≡◌, ℕ, Bool, true, false, not, ◌&&◌, ◌||◌, cond, eqb, List, length, Result, Ok, Err, IfOk, IfErr, arith, sym, ap, ◌∙◌, refl}
 use Rattle.std.proofs.lemmas.Bool.{eqb-true, false≢true}
 use Rattle.std.proofs.lemmas.Bool.Decides.{nat_tests}
 use Rattle.meaning.specs.Cofactors.{World, Function, IsThere, Agree}
-use Rattle.meaning.specs.Counts.{counted}
 use Rattle.meaning.specs.Reports.{IsLeast}
 use Rattle.meaning.specs.Texts.{holds_at}
 use Rattle.cond_text.proofs.Values.{value_at_place}
 use Rattle.node_pool.specs.declared.node.NodeNo.{NodeNo}
 use Rattle.node_pool.specs.Nodes.{value, IsReduced}
 use Rattle.node_pool.specs.Regions.{Region}
-use Rattle.node_pool.specs.Functions.{pool_of, function_of, world_of, AgreeAtAll}
-use Rattle.node_pool.specs.Made.{Grows}
+use Rattle.node_pool.specs.Functions.{pool_of, function_of, world_of}
 use Rattle.node_pool.proofs.Values.{value-constant}
 use Rattle.node_pool.proofs.Canonical.{canonical_over_lists}
 use Rattle.worlds.specs.Algebra.{Kept, HoldsWhere, HoldsNowhere, HoldAlike, IsRefusal, has}
@@ -20,7 +18,7 @@ use Rattle.conditions.specs.declared.question.Question.{Question}
 use Rattle.conditions.specs.declared.question.Question.TheVariants.{Both, Either, Without, Pick}
 use Rattle.conditions.specs.Answers.{asked_in}
 use Rattle.conditions.specs.Least.{IsLeastOf}
-use Rattle.conditions.specs.Diagrams.{State, algebra_of, IsLive, IsExact, HasFunction, Asks}
+use Rattle.conditions.specs.Diagrams.{State, algebra_of, IsLive, IsExact, Asks}
 use Rattle.conditions.proofs.Cofactors.{Adds-agree, Lacks-agree}
 
 -- ---- two tests at once

@@ -1,7 +1,7 @@
 -- The way down to the least world of a function.
 use Rattle.std.proofs.Common.{◌≡◌, ◌≢◌, ℕ, zero, suc, ◌+◌, ◌<◌, ◌≤◌, ◌⊎◌, inl, inr, Bool, true, false, cond, List, [], ◌∷◌, length, arith, sym, ap, ◌∙◌, refl, ⊎_elim, get_or, set, get_or-set_other, get_or-set_same}
 use Rattle.std.proofs.lemmas.Bool.{cases_lt, false≢true}
-use Rattle.meaning.specs.Cofactors.{World, Agree}
+use Rattle.meaning.specs.Cofactors.{World}
 use Rattle.meaning.specs.Worlds.{is_lower}
 use Rattle.node_pool.specs.declared.node.Node.{Node}
 use Rattle.node_pool.specs.Nodes.{value, top_of, IsReduced}

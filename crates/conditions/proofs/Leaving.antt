@@ -1,5 +1,5 @@
 -- How a walk leaves the rows of a table.
-use Rattle.std.proofs.Common.{◌≡◌, ◌≢◌, ℕ, zero, suc, ◌+◌, ◌-◌, ◌<◌, ◌≤◌, Bool, true, false, ◌||◌, cond, eqb, List, [], ◌∷◌, ◌++◌, length, map, set, get_or, slice_index, Option, Some, None, arith, sym, ap, subst, ◌∙◌, refl, ⊎_elim, length-append, length-set, option_map, replicate, get_or-set_other, get_or-set_same}
+use Rattle.std.proofs.Common.{◌≡◌, ◌≢◌, ℕ, zero, suc, ◌+◌, ◌-◌, ◌<◌, ◌≤◌, Bool, true, false, cond, eqb, List, [], ◌∷◌, ◌++◌, length, set, get_or, slice_index, Some, None, arith, sym, ap, subst, ◌∙◌, refl, ⊎_elim, length-append, length-set, option_map, replicate, get_or-set_other, get_or-set_same}
 use Rattle.std.specs.List.{slice_get, list_any}
 use Rattle.std.proofs.Math.ListN.{get_or-append}
 use Rattle.std.proofs.lemmas.Bool.{cases_lt, cases_eq}
@@ -8,14 +8,13 @@ use Rattle.std.proofs.lemmas.List.{get_or-map, length-map, map-append, length-re
 use Rattle.std.proofs.lemmas.Option.{slice_get-get_or, slice_get-map, get_or_from_slice_get}
 use Rattle.std.proofs.Math.Seq.{get_or-append_seam}
 use Rattle.meaning.specs.CaseFiles.{Row}
-use Rattle.meaning.specs.Cofactors.{World, Agree}
+use Rattle.meaning.specs.Cofactors.{World}
 use Rattle.meaning.specs.Texts.{numbers_from}
 use Rattle.meaning.specs.TableOrder.{row_of_id, row_ahead, left_after, left_after_all}
 use Rattle.node_pool.specs.declared.node.Node.{Node}
 use Rattle.node_pool.specs.declared.node.NodeNo.{NodeNo}
-use Rattle.node_pool.specs.Nodes.{node_at, no_node, triple, top_of, value, MayStand, IsReduced, IsAbsent, Extends}
+use Rattle.node_pool.specs.Nodes.{node_at, no_node, triple, value, MayStand, IsReduced, IsAbsent, Extends}
 use Rattle.node_pool.specs.Regions.{Region}
-use Rattle.node_pool.specs.Functions.{function_of}
 use Rattle.node_pool.proofs.Reduced.{top_of-constant, top_of-inner, top_of-extends, Extends-refl, Extends-trans, Extends-push, IsReduced-push, node_at-pushed}
 use Rattle.node_pool.proofs.Values.{stands_at, value-constant, value-inner, value-extends}
 use Rattle.node_pool.proofs.Canonical.{canonical}

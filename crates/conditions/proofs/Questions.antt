@@ -1,8 +1,8 @@
 -- Questions while the region grows, and the variables that matter to them.
-use Rattle.std.proofs.Common.{◌≡◌, ℕ, ◌+◌, ◌<◌, ◌≤◌, Bool, not, ◌&&◌, ◌||◌, cond, List, length, arith, ap, ◌∙◌}
+use Rattle.std.proofs.Common.{◌≡◌, ℕ, ◌≤◌, Bool, not, ◌&&◌, ◌||◌, cond, List, length, arith, ap, ◌∙◌}
 use Rattle.meaning.specs.Cofactors.{World}
 use Rattle.node_pool.specs.declared.node.Node.{Node}
-use Rattle.node_pool.specs.Nodes.{value, top_of, IsReduced, Extends}
+use Rattle.node_pool.specs.Nodes.{value, IsReduced, Extends}
 use Rattle.node_pool.proofs.Reduced.{top_of-extends}
 use Rattle.node_pool.proofs.Values.{value-extends, value-agrees}
 use Rattle.conditions.specs.declared.question.Question.{Question}

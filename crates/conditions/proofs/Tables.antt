@@ -3,7 +3,7 @@ use Rattle.std.proofs.Common.{◌≡◌, ℕ, ◌+◌, ◌-◌, ◌<◌, ◌≤�
 use Rattle.std.proofs.lemmas.List.{get_or-map}
 use Rattle.meaning.specs.Cofactors.{World}
 use Rattle.node_pool.specs.declared.node.Node.{Node}
-use Rattle.node_pool.specs.Nodes.{node_at, no_node, value, MayStand, IsReduced}
+use Rattle.node_pool.specs.Nodes.{node_at, no_node, value, MayStand}
 use Rattle.node_pool.proofs.Values.{stands_at, value-inner}
 use Rattle.conditions.specs.Tables.{TableRow, Contents, KeepsRules, node_of, nodes_of}
 use Rattle.conditions.proofs.Leaving.{row_count}

@@ -1,5 +1,5 @@
 -- A walk that leaves rows.
-use Rattle.std.specs.Prelude.{◌≡◌, ℕ, ◌+◌, ◌-◌, ◌<◌, ◌≤◌, List, [], length, slice_index, slice_index_or}
+use Rattle.std.specs.Prelude.{◌≡◌, ℕ, ◌+◌, ◌<◌, ◌≤◌, List, [], length, slice_index, slice_index_or}
 use Rattle.std.specs.List.{slice_get}
 use Rattle.meaning.specs.Cofactors.{Agree}
 use Rattle.meaning.specs.Texts.{numbers_from}

@@ -1,5 +1,5 @@
 -- Tables of conditions: rows with a variable and the identifiers of two children. 0 is false, 1 is true, and k + 2 is row k.
-use Rattle.std.specs.Prelude.{◌≡◌, ℕ, ◌+◌, ◌<◌, ◌≤◌, [], List, length, map, slice_index_or}
+use Rattle.std.specs.Prelude.{◌≡◌, ℕ, ◌+◌, ◌<◌, [], List, length, map, slice_index_or}
 use Rattle.meaning.specs.Cofactors.{Agree}
 use Rattle.meaning.specs.CaseFiles.{Row}
 use Rattle.meaning.specs.Texts.{numbers_from}

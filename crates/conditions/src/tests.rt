@@ -4,7 +4,8 @@ ghost use Rattle.std.specs.Prelude.{◌≡◌, ◌≤◌, IfOk};
 ghost use Rattle.worlds.specs.Algebra.{Kept};
 ghost use Rattle.conditions.specs.Diagrams.{algebra_of};
 
-use crate::{Cond, Diagrams};
+use crate::{Cond, Diagrams, NoMemory, Table};
+use doc_tree::Row;
 use std::alloc::Global;
 use std::process::Abort;
 use std::test::Fail;
@@ -143,21 +144,22 @@ fn every_operator_is_right_over_all_functions_of_two_features(rt: HostRuntime) -
     Ok(())
 }
 
-/// An open value over three features, restricted to the worlds with the first or the last one.
-fn first_or_last(alloc: Global) -> Result<Diagrams, Fail>
-    ensures { IfOk result (λ d. d.region.vars ≡ 3) }
+/// Restricts the value to the worlds with the first feature or the last of three.
+fn restrict_to_first_or_last(d: &mut Diagrams) -> Result<(), NodeLimit>
+    requires { d.old.region.vars ≡ 3 }
+    ensures { d.new.region.vars ≡ 3 }
 {
-    let mut d = Diagrams::new(alloc, 100, 3)?;
-    let first = d.feature(0).ok().ok_or("full")?;
-    let last = d.feature(2).ok().ok_or("full")?;
-    let line = d.either(first, last).ok().ok_or("full")?;
+    let first = d.feature(0)?;
+    let last = d.feature(2)?;
+    let line = d.either(first, last)?;
     d.restrict(line);
-    Ok(d)
+    Ok(())
 }
 
 #[test]
 fn a_restriction_leaves_the_worlds_of_its_condition(rt: HostRuntime) -> Result<(), Fail> {
-    let d = first_or_last(rt.alloc())?;
+    let mut d = Diagrams::new(rt.alloc(), 100, 3)?;
+    assert!(rt; restrict_to_first_or_last(&mut d).is_ok());
     assert_eq!(rt;
         (d.limit(), d.asked(), d.refused(), d.used()),
         (100, 3, 0, 3)
@@ -173,17 +175,26 @@ fn a_restriction_leaves_the_worlds_of_its_condition(rt: HostRuntime) -> Result<(
     Ok(())
 }
 
-#[test]
-fn what_is_made_after_a_restriction_keeps_to_its_worlds(rt: HostRuntime) -> Result<(), Fail> {
-    let mut d = first_or_last(rt.alloc())?;
-    let second = d.feature(1).ok().ok_or("full")?;
+/// The second of three features at restricted worlds, and the worlds without it.
+fn make_after_restriction(rt: &impl Abort, d: &mut Diagrams) -> Result<(), NodeLimit>
+    requires { d.old.region.vars ≡ 3 }
+{
+    let second = d.feature(1)?;
     assert!(rt; d.at(second, &[false, true, true]) && !d.at(second, &[false, true, false]));
-    let all = d.always();
-    let rest = d.without(all, second).ok().ok_or("full")?;
-    assert!(rt; d.at(rest, &[true, false, false]) && !d.at(rest, &[false, false, false]));
     let mut world = [true, true, true];
     assert!(rt; d.pick(second, &mut world));
     assert_eq!(rt; world, [false, true, true]);
+    let all = d.always();
+    let rest = d.without(all, second)?;
+    assert!(rt; d.at(rest, &[true, false, false]) && !d.at(rest, &[false, false, false]));
+    Ok(())
+}
+
+#[test]
+fn what_is_made_after_a_restriction_keeps_to_its_worlds(rt: HostRuntime) -> Result<(), Fail> {
+    let mut d = Diagrams::new(rt.alloc(), 100, 3)?;
+    assert!(rt; restrict_to_first_or_last(&mut d).is_ok());
+    assert!(rt; make_after_restriction(&rt, &mut d).is_ok());
     Ok(())
 }
 
@@ -199,15 +210,18 @@ fn a_feature_of_restricted_worlds_is_made_without_its_bare_variable(
     Ok(())
 }
 
+fn export_one(alloc: Global, d: &Diagrams, c: Cond) -> Result<(Table, Row<u32>), NoMemory>
+    requires { (algebra_of d.now).live c }
+{
+    d.export(alloc, &[c])
+}
+
 #[test]
-fn a_table_has_the_rows_in_the_order_of_a_walk(rt: HostRuntime) -> Result<(), Fail> {
-    let mut d = Diagrams::new(rt.alloc(), 10, 2)?;
-    let second = d.feature(1).ok().ok_or("full")?;
-    let first = d.feature(0).ok().ok_or("full")?;
-    let both = d.both(first, second).ok().ok_or("full")?;
-    let (table, ids) = d.export(rt.alloc(), &[both, first, both])?;
-    assert_eq!(rt; table.rows(), [(1, 0, 1), (0, 0, 2), (0, 0, 1)].as_slice());
-    assert_eq!(rt; ids.list(), [3, 4, 3].as_slice());
-    assert!(rt; table.rows().len() == 3);
+fn a_table_has_the_rows_of_low_before_those_of_high(rt: HostRuntime) -> Result<(), Fail> {
+    let mut d = Diagrams::new(rt.alloc(), 14, 2)?;
+    let differ = with_table(&mut d, 6).ok().ok_or("full")?;
+    let (table, ids) = export_one(rt.alloc(), &d, differ)?;
+    assert_eq!(rt; table.rows(), [(1, 0, 1), (1, 1, 0), (0, 2, 3)].as_slice());
+    assert_eq!(rt; ids.list(), [4].as_slice());
     Ok(())
 }

@@ -1,5 +1,5 @@
-use Rattle.std.proofs.Common.{◌≡◌, ap, sym, subst, ◌∙◌, length, replicate, arith}
-use Rattle.conditions.proofs.Leaving.{IsGathered-start, IsGathered-more, IsExported-gathered}
+use Rattle.std.proofs.Common.{◌≡◌, length, replicate}
+use Rattle.conditions.proofs.Leaving.{IsGathered-start, IsGathered-more}
 use Rattle.conditions.proofs.export.export.Goals as goal
 
 pub loop-number-init : goal.loop-number-init

@@ -1,6 +1,6 @@
-use Rattle.std.proofs.Common.{◌≡◌, ◌-◌, arith, sym, ap, ◌∙◌}
+use Rattle.std.proofs.Common.{◌≡◌, arith, ap, ◌∙◌}
 use Rattle.node_pool.specs.declared.node.Node.{Node}
-use Rattle.node_pool.specs.Nodes.{node_at, top_of, IsReduced}
+use Rattle.node_pool.specs.Nodes.{top_of, IsReduced}
 use Rattle.node_pool.proofs.Reduced.{top_of-constant, top_of-inner}
 use Rattle.node_pool.proofs.Values.{var_of, low_of, high_of}
 use Rattle.conditions.proofs.Splits.{IsNumberSplit-later, IsNumberSplit-here}

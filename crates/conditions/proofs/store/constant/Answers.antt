@@ -1,4 +1,4 @@
-use Rattle.std.proofs.Common.{◌≡◌, ◌<◌, [], arith}
+use Rattle.std.proofs.Common.{◌<◌, [], arith}
 use Rattle.node_pool.specs.Nodes.{IsReduced}
 use Rattle.node_pool.specs.Regions.{IsRegion}
 use Rattle.conditions.specs.Questions.{first_of}

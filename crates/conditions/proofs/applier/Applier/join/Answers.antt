@@ -1,10 +1,10 @@
 use Rattle.std.proofs.Common.{◌≡◌, refl, sym, subst, ap, ◌∙◌}
 use Rattle.node_pool.specs.Nodes.{triple, IsReduced}
-use Rattle.node_pool.specs.Regions.{Region, IsFull}
+use Rattle.node_pool.specs.Regions.{IsFull}
 use Rattle.node_pool.specs.Made.{Grows, Makes}
 use Rattle.node_pool.specs.Functions.{pool_of, function_of, branch}
 use Rattle.meaning.specs.Cofactors.{Lacks}
-use Rattle.conditions.specs.Answers.{IsHalved, IsAnswer, Joins}
+use Rattle.conditions.specs.Answers.{Joins}
 use Rattle.conditions.proofs.Answers.{Joins-made, Joins-refused, IsAnswer-later, at_error}
 use Rattle.conditions.proofs.applier.Applier.join.Goals as goal
 use Rattle.conditions.proofs.applier.Applier.join.Goals.{In_ok-answer}

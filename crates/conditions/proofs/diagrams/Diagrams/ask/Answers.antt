@@ -1,12 +1,9 @@
 use Rattle.std.proofs.Common.{◌≡◌, ℕ, subst, ◌+◌, ◌-◌, ◌*◌, ◌^◌, ◌<◌, ◌≤◌, length, ◌∙◌, refl, arith}
 use Rattle.meaning.specs.Bounds.{nodes_of_functions}
 use Rattle.meaning.specs.Counts.{counted}
-use Rattle.node_pool.specs.Regions.{Region}
 use Rattle.node_pool.specs.Functions.{pool_of}
 use Rattle.meaning.specs.Cofactors.{IsThere}
 use Rattle.conditions.specs.Questions.{first_of}
-use Rattle.conditions.specs.Answers.{Answers}
-use Rattle.conditions.specs.Diagrams.{IsExact}
 use Rattle.conditions.proofs.Counting.{few_after, limit_below, nodes_of_functions-more}
 use Rattle.conditions.proofs.diagrams.Diagrams.ask.Goals as goal
 use Rattle.conditions.proofs.diagrams.Diagrams.ask.Goals.{After-ask}

@@ -1,4 +1,4 @@
-use Rattle.std.proofs.Common.{◌≡◌, ap, subst, ◌∙◌}
+use Rattle.std.proofs.Common.{◌≡◌, ap, subst}
 use Rattle.node_pool.specs.declared.node.NodeNo.{NodeNo}
 use Rattle.conditions.specs.Diagrams.{State, Asks}
 use Rattle.conditions.proofs.Laws.{Kept-asks, HoldsWhere-asks, IsExact-agree, feature_asked, feature_within, feature_at, feature_is}

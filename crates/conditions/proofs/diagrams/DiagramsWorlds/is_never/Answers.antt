@@ -1,4 +1,4 @@
-use Rattle.std.proofs.Common.{◌≡◌, sym, ap, ◌∙◌}
+use Rattle.std.proofs.Common.{sym, ◌∙◌}
 use Rattle.std.proofs.lemmas.Bool.{eqb-true}
 use Rattle.node_pool.specs.Nodes.{IsReduced}
 use Rattle.conditions.proofs.Laws.{never_nowhere, nowhere_never, equal_test}

@@ -1,6 +1,6 @@
-use Rattle.std.proofs.Common.{◌≡◌, sym, ◌∙◌}
+use Rattle.std.proofs.Common.{sym}
 use Rattle.std.proofs.lemmas.Bool.{eqb-true}
-use Rattle.conditions.proofs.Laws.{never_nowhere, least_world}
+use Rattle.conditions.proofs.Laws.{never_nowhere}
 use Rattle.conditions.proofs.diagrams.DiagramsWorlds.pick.Goals as goal
 
 pub returns-then-eq-clause-never : goal.returns-then-eq-clause-never

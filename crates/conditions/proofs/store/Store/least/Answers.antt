@@ -1,9 +1,7 @@
-use Rattle.std.proofs.Common.{◌≡◌, ◌≢◌, ◌<◌, ◌+◌, true, false, length, ap, sym, ◌∙◌, subst, arith}
+use Rattle.std.proofs.Common.{◌≡◌, ◌≢◌, ◌<◌, length, sym, arith}
 use Rattle.std.proofs.lemmas.Bool.{eqb-true}
 use Rattle.node_pool.proofs.MakeLemmas.{differ_by_number}
-use Rattle.node_pool.specs.declared.node.NodeNo.{NodeNo}
-use Rattle.node_pool.specs.Functions.{world_of}
-use Rattle.conditions.proofs.Least.{IsWayDown, way_high_written, way_low_written, way_end}
+use Rattle.conditions.proofs.Least.{way_high_written, way_low_written, way_end}
 use Rattle.conditions.proofs.store.Store.least.Goals as goal
 use Rattle.conditions.proofs.store.Store.least.Goals.{then-is_true, else-is_true}
 

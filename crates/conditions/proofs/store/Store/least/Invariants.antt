@@ -1,4 +1,3 @@
-use Rattle.std.proofs.Common.{◌≡◌, length}
 use Rattle.node_pool.specs.Functions.{world_of}
 use Rattle.conditions.proofs.Least.{IsWayDown}
 use Rattle.conditions.proofs.store.Store.least.Given as goal

@@ -1,7 +1,7 @@
-use Rattle.std.proofs.Common.{◌≡◌, ◌<◌, ◌≤◌, ◌+◌, true, false, length, arith, sym, ap, ◌∙◌}
+use Rattle.std.proofs.Common.{◌≡◌, true, false, arith, sym, ap, ◌∙◌}
 use Rattle.node_pool.specs.Functions.{world_of}
 use Rattle.node_pool.proofs.Values.{value-constant}
-use Rattle.conditions.specs.Tables.{Contents, KeepsRules, nodes_of}
+use Rattle.conditions.specs.Tables.{KeepsRules, nodes_of}
 use Rattle.conditions.proofs.Tables.{IsRowOf, row_variable, row_child, row_step}
 use Rattle.conditions.proofs.table.Table.at.Goals as goal
 use Rattle.conditions.proofs.table.Table.at.Goals.{After-index}
