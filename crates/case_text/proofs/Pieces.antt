@@ -1,13 +1,12 @@
 -- Lists of texts, of targets and of numbered nodes, one element after another.
-use Rattle.std.proofs.Common.{◌≡◌, ℕ, zero, suc, ◌+◌, ◌≤◌, ◌<◌, ◌⊎◌, inl, inr, Bool, true, false, List, [], ◌∷◌, ◌++◌, Some, None, map, length, get_or, set, take, refl, sym, ap, ◌∙◌, subst, add-one, arith}
-use Rattle.std.specs.Prelude.{filter, ◌&&◌, ◌==◌, if◌then◌else◌, All}
-use Rattle.std.specs.List.{slice_get, enumerate_from, range_with_len}
-use Rattle.std.proofs.lemmas.Bool.{cases_eq, cases_lt, false≢true}
-use Rattle.std.proofs.lemmas.List.{append_assoc, get_or_past, get_or_append_left, get_or-append_right, map-append, length-append}
-use Rattle.meaning.specs.Texts.{flat, spaced, holds_at, numbered}
+use Rattle.std.proofs.Common.{◌≡◌, ℕ, zero, suc, ◌+◌, ◌<◌, Bool, true, false, List, [], ◌∷◌, ◌++◌, Some, map, length, get_or, take, refl, sym, ap, ◌∙◌, arith}
+use Rattle.std.specs.Prelude.{filter, if◌then◌else◌}
+use Rattle.std.specs.List.{slice_get, enumerate_from}
+use Rattle.std.proofs.lemmas.List.{append_assoc}
+use Rattle.meaning.specs.Texts.{flat, spaced, holds_at}
 use Rattle.meaning.specs.Cases as plain
 use Rattle.gsn.specs.declared.case.CRel.{CRel}
-use Rattle.case_text.specs.Parts.{goes_from, targets_of, name_at}
+use Rattle.case_text.specs.Parts.{goes_from, targets_of}
 
 pub append_none : {A : Type 0} (xs : List A) → xs ++ [] ≡ xs
 append_none [] = refl

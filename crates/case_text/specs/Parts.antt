@@ -1,5 +1,5 @@
 -- The parts of a case's text, over identifiers and targets that have been gathered.
-use Rattle.std.specs.Prelude.{◌≡◌, ℕ, List, [], ◌∷◌, ◌++◌, map, length, filter, Bool, true, false, ◌&&◌, ◌==◌, if◌then◌else◌, codes, slice_index_or, unwrap_or}
+use Rattle.std.specs.Prelude.{ℕ, List, [], ◌∷◌, ◌++◌, map, length, filter, Bool, true, false, ◌&&◌, ◌==◌, if◌then◌else◌, codes, slice_index_or}
 use Rattle.std.specs.List.{range_with_len}
 use Rattle.meaning.specs.Texts.{spaced}
 use Rattle.meaning.specs.Cases as plain

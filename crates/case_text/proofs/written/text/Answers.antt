@@ -1,17 +1,13 @@
-use Rattle.std.proofs.Common.{◌≡◌, ◌<◌, ◌≤◌, ◌+◌, ◌++◌, ◌∷◌, [], ℕ, suc, List, Bool, true, false, Some, map, length, get_or, take, string_bytes, refl, sym, ap, ◌∙◌, subst, arith}
-use Rattle.std.specs.Prelude.{codes, unwrap_or}
-use Rattle.std.specs.List.{slice_get}
-use Rattle.std.proofs.lemmas.List.{append_assoc, get_or_read, get_or-map, length-map, take_all}
-use Rattle.std.proofs.lemmas.List.Elements.{All-get_or}
-use Rattle.std.proofs.lemmas.Option.{slice_get-get_or, unwrap_or-slice_get}
-use Rattle.meaning.specs.Texts.{flat, numbered}
+use Rattle.std.proofs.Common.{◌≡◌, ◌<◌, [], ℕ, List, Some, map, length, get_or, string_bytes, sym, ap, ◌∙◌, subst, arith}
+use Rattle.std.specs.Prelude.{codes}
+use Rattle.std.proofs.lemmas.List.{get_or-map, length-map}
+use Rattle.std.proofs.lemmas.Option.{slice_get-get_or}
 use Rattle.meaning.specs.Cases as plain
-use Rattle.gsn.specs.declared.case.CNode.{CNode}
 use Rattle.gsn.specs.declared.case.CRel.{CRel}
-use Rattle.gsn.specs.View.{case_of, node_of, relation_of, status_view}
-use Rattle.case_text.specs.Parts.{targets_of, node_text, numbered_identifiers}
+use Rattle.gsn.specs.View.{case_of, status_view}
+use Rattle.case_text.specs.Parts.{targets_of}
 use Rattle.case_text.proofs.Pieces.{targets_in}
-use Rattle.case_text.proofs.Whole.{at_node, length_nodes, length_statuses, length_identifiers, told_at, one_node, whole_text}
+use Rattle.case_text.proofs.Whole.{length_nodes, length_statuses, length_identifiers, told_at, one_node, whole_text}
 use Rattle.case_text.proofs.written.text.Goals as goal
 
 pub bounds-list-place : goal.bounds-list-place
