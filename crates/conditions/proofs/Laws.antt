@@ -18,7 +18,7 @@ use Rattle.conditions.specs.declared.question.Question.{Question}
 use Rattle.conditions.specs.declared.question.Question.TheVariants.{Both, Either, Without, Pick}
 use Rattle.conditions.specs.Answers.{asked_in}
 use Rattle.conditions.specs.Least.{IsLeastOf}
-use Rattle.conditions.specs.Diagrams.{State, algebra_of, IsLive, IsExact, Asks}
+use Rattle.conditions.specs.Diagrams.{State, algebra_of, IsLive, IsExact, IsRestricted, Asks}
 use Rattle.conditions.proofs.Cofactors.{Adds-agree, Lacks-agree}
 
 -- ---- two tests at once
@@ -194,3 +194,22 @@ restricted_world s c x live =
     let valid : Bool = function_of s.region s.valid.0 (world_of x) in
     let here : Bool = function_of s.region c.0 (world_of x) in
     three (eqb (length x) s.region.vars) valid here (live.within (world_of x))
+
+pub IsRestricted-to : (s : State) (c : NodeNo) → IsLive s.region s.valid c → IsRestricted s (record s { valid = c }) c
+IsRestricted-to s c live = record {
+  worlds = λ x. restricted_world s c x live;
+  always = refl;
+  always_live = record { there = live.there; within = λ w h. h };
+  never_live = never_live s.region c;
+  live = λ a. (
+    λ later. (record { there = later.there; within = λ w h. live.within w (later.within w h) }, later.within),
+    λ earlier. record { there = earlier.0.there; within = earlier.1 },
+  );
+  holds = λ a x. refl;
+  count = refl;
+  limit = refl;
+  asked = refl;
+  refused = refl;
+  taken = refl;
+  size = refl;
+}

@@ -7,3 +7,4 @@ pub mod Counting
 pub mod Laws
 pub mod Leaving
 pub mod Tables
+pub mod TableRows

@@ -1,5 +1,5 @@
 -- What contracts see of diagrams.
-use Rattle.std.specs.Prelude.{◌≡◌, ℕ, ◌+◌, ◌-◌, ◌*◌, ◌^◌, ◌<◌, ◌≤◌, zero, suc, List, length, Bool, true, false, ◌&&◌, ◌||◌, nat_lt, if◌then◌else◌, ◌==◌, count_by, Result, IfOk, IfErr}
+use Rattle.std.specs.Prelude.{◌≡◌, ◌↔◌, ℕ, ◌+◌, ◌-◌, ◌*◌, ◌^◌, ◌<◌, ◌≤◌, zero, suc, List, length, Bool, true, false, ◌&&◌, ◌||◌, nat_lt, if◌then◌else◌, ◌==◌, count_by, Result, IfOk, IfErr}
 use Rattle.std.specs.List.{list_any}
 use Rattle.meaning.specs.Bounds.{nodes_of_functions}
 use Rattle.meaning.specs.Counts.{counted}
@@ -11,7 +11,7 @@ use Rattle.node_pool.specs.Nodes.{node_at}
 use Rattle.node_pool.specs.Regions.{Region, IsRegion}
 use Rattle.node_pool.specs.Functions.{pool_of, function_of, world_of}
 use Rattle.node_pool.specs.Made.{Grows}
-use Rattle.worlds.specs.Algebra.{Algebra, refusals_after}
+use Rattle.worlds.specs.Algebra.{Algebra, has, refusals_after}
 use Rattle.worlds.specs.declared.stops.NodeLimit.{NodeLimit}
 use Rattle.conditions.specs.declared.question.Question.{Question}
 use Rattle.conditions.specs.declared.diagrams.Diagrams.TheInside.{Inside}
@@ -94,3 +94,24 @@ pub record Asks (old new : State) (question : Question) (result : Result NodeNo 
   pub no_fewer_refused : old.refused ≤ new.refused
   pub answer : IfOk result (HasFunction new.region (asked_in old.region question))
   pub exact : IsExact old.region new.region (asked_in old.region question) result
+
+-- ---- a restriction
+
+-- the one condition holds only where the other does
+abbrev pub IsWithin : Region → NodeNo → NodeNo → Type 0
+IsWithin r a c = (w : World) → function_of r a.0 w ≡ true → function_of r c.0 w ≡ true
+
+-- the worlds are those at which c held, and `always` is c. Of what was live, just what holds only where c does is live, with its function: so c and never are. All else stays
+pub record IsRestricted (old new : State) (c : NodeNo) : Type 0 where
+  pub worlds : (x : List Bool) → (algebra_of new).is_world x ≡ has (algebra_of old) c x
+  pub always : new.valid ≡ c
+  pub always_live : (algebra_of new).live c
+  pub never_live : (algebra_of new).live (record { 0 = 0 })
+  pub live : (a : NodeNo) → (algebra_of new).live a ↔ ((algebra_of old).live a × IsWithin old.region a c)
+  pub holds : (a : NodeNo) (x : List Bool) → (algebra_of new).holds a x ≡ (algebra_of old).holds a x
+  pub count : (algebra_of new).count ≡ (algebra_of old).count
+  pub limit : (algebra_of new).limit ≡ (algebra_of old).limit
+  pub asked : (algebra_of new).asked ≡ (algebra_of old).asked
+  pub refused : (algebra_of new).refused ≡ (algebra_of old).refused
+  pub taken : (algebra_of new).taken ≡ (algebra_of old).taken
+  pub size : (algebra_of new).size ≡ (algebra_of old).size

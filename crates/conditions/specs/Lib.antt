@@ -7,3 +7,4 @@ pub mod Diagrams
 pub mod Tables
 pub mod Table
 pub mod Leaving
+pub mod TableRows

@@ -11,7 +11,7 @@ ghost use Rattle.conditions.specs.Questions.{IsAsked};
 ghost use Rattle.conditions.specs.Store.{no_region};
 ghost use Rattle.std.specs.List.{All};
 ghost use Rattle.conditions.specs.Tables.{IsExported};
-ghost use Rattle.conditions.specs.Diagrams.{algebra_of, IsLive, IsBounded, IsExact, Asks};
+ghost use Rattle.conditions.specs.Diagrams.{algebra_of, IsLive, IsBounded, IsExact, IsRestricted, Asks};
 
 use crate::export::export;
 use crate::question::{FALSE, Question, TRUE};
@@ -119,6 +119,7 @@ impl Diagrams {
     pub fn restrict(&mut self, c: Cond)
         requires { (algebra_of self.old).live c }
         ensures state { self.new ≡ record self.old { valid = c } }
+        ensures restricted { IsRestricted self.old self.new c }
     {
         let _invariant = &self.store;
         self.valid = c;

@@ -41,7 +41,7 @@ fn leave(
 }
 
 /// Appends an item.
-fn push<T: Drop>(items: &mut Vec<T>, item: T) -> Result<(), NoMemory>
+pub fn push<T: Drop>(items: &mut Vec<T>, item: T) -> Result<(), NoMemory>
     ensures { OnOk result (items.new.items ≡ items.old.items ++ item ∷ []) }
 {
     match items.push(item) {

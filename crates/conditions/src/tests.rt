@@ -11,6 +11,14 @@ use std::process::Abort;
 use std::test::Fail;
 use worlds::{NodeLimit, Worlds};
 
+mod boards;
+mod four_features;
+mod pairs;
+mod queens;
+mod reading;
+mod restricted;
+mod tables;
+
 /// The first two features of an empty value, and what both of them answers.
 fn both_of_two(rt: &impl Abort, d: &mut Diagrams) -> Result<bool, NodeLimit>
     requires { d.old.region.vars ≡ 2 }
