@@ -1,3 +1,8 @@
+pub mod FirstFault
+pub mod CasesRead
+pub mod KeptRules
+pub mod FaultLaws
+pub mod SeenNames
 pub mod Plain
 pub mod CaseShape
 pub mod Writing

@@ -6,7 +6,7 @@ ghost use Rattle.doc_tree.specs.View.{document, members};
 ghost use Rattle.lifted_case.specs.View.{node_of, kind_of};
 ghost use Rattle.lifted_case.specs.Written.{IsWritten, MembersWritten};
 
-use crate::conditions::Conditions;
+use crate::condition_ids::Conditions;
 use crate::parts::parts;
 use crate::tables::{add, list, number, table, text};
 use crate::thin::ThinNode;

@@ -4,7 +4,7 @@ ghost use Rattle.doc_tree.specs.View.{document};
 ghost use Rattle.lifted_case.specs.View.{relation_of};
 ghost use Rattle.lifted_case.specs.Written.{IsWritten};
 
-use crate::conditions::Conditions;
+use crate::condition_ids::Conditions;
 use crate::tables::{add, list, number, table, text};
 use crate::thin::ThinRel;
 use doc_tree::{Doc, NoMemory};

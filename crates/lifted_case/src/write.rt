@@ -5,7 +5,7 @@ ghost use Rattle.doc_tree.specs.View.{document};
 ghost use Rattle.lifted_case.specs.View.{case_document, document_over};
 ghost use Rattle.lifted_case.specs.Written.{IsWritten};
 
-use crate::conditions::Conditions;
+use crate::condition_ids::Conditions;
 use crate::nodes::nodes;
 use crate::relations::relations;
 use crate::rows::rows;

@@ -1,0 +1,7 @@
+use Rattle.std.proofs.Common.{◌≡◌, take, map}
+use Rattle.meaning.specs.Documents.{texts_in}
+use Rattle.doc_tree.specs.View.{documents}
+use Rattle.lifted_case.proofs.values.lists.words.Given as goal
+
+abbrev pub invariant-items : goal.invariant-items
+invariant-items l = l.words.items ≡ texts_in (documents (take l.item-index l.items))

@@ -1,0 +1,90 @@
+//! From bytes to a case.
+
+ghost use Rattle.std.specs.Prelude.{◌≡◌, [], Some, map, codes, IfOk, IfErr, Err};
+ghost use Rattle.meaning.specs.CaseReading as reading;
+ghost use Rattle.meaning.specs.CaseReading.{Is, Broken, case_document_of};
+ghost use Rattle.meaning.specs.Documents.{list_at};
+ghost use Rattle.doc_tree.specs.View.{document};
+ghost use Rattle.conditions.specs.Tables.{case_rows};
+ghost use Rattle.lifted_case.specs.CaseView.{case_document_of_read, fault_view};
+ghost use Rattle.lifted_case.specs.CaseRules.{KeepsCaseRules};
+ghost use Rattle.lifted_case.specs.ReadFaults.{faults_in, TellsReading};
+
+use crate::faults::check;
+use crate::lifted::{CaseFault, Lifted, ReadCase};
+use crate::members::natural_at;
+use crate::stop::ReadCaseStop;
+use crate::values::lists::names;
+use crate::values::nodes::{nodes, relations};
+use crate::values::systems::systems;
+use conditions::{Table, read_table};
+use doc_tree::{Doc, DocStop, NoMemory, Part, Word, from_json};
+use std::alloc::Global;
+
+/// The file is no document with a table at the top.
+const NO_CASE: CaseFault = CaseFault {
+    fault: 1,
+    part: Part::Document,
+    item: 0,
+    sub: 0,
+};
+
+/// The case that the bytes are, which are JSON (RFC 8259), or the first rule of case files that they break: the least by its number, then
+/// by the place. A document with a fault at an item whose number is above 4,294,967,295 is answered as one that the memory doesn't hold.
+pub fn read_case(alloc: Global, bytes: &[u8]) -> Result<ReadCase, ReadCaseStop>
+    ensures ok { IfOk result (λ c. reading.read_case bytes.now ≡ Is (case_document_of_read c)) }
+    ensures rules { IfOk result KeepsCaseRules }
+    ensures fault { (f : CaseFault) → result ≡ Err (ReadCaseStop.Fault f) → reading.read_case bytes.now ≡ Broken (fault_view f) }
+{
+    match from_json(alloc, bytes) {
+        Ok(doc) => read_document(alloc, &doc),
+        Err(DocStop::NotDocument) => Err(ReadCaseStop::Fault(NO_CASE)),
+        Err(DocStop::NoMemory) => Err(ReadCaseStop::NoMemory),
+    }
+}
+
+/// The case that a document is, or the first rule that it breaks.
+fn read_document(alloc: Global, doc: &Doc) -> Result<ReadCase, ReadCaseStop>
+    ensures ok { IfOk result (λ c. reading.read_document (Some (document doc.now)) ≡ Is (case_document_of_read c)) }
+    ensures rules { IfOk result KeepsCaseRules }
+    ensures fault { IfErr result (λ stop. TellsReading stop (reading.read_document (Some (document doc.now)))) }
+{
+    if !doc.is_table() {
+        return Err(ReadCaseStop::Fault(NO_CASE));
+    }
+    check(alloc, doc)?;
+    Ok(case_of(alloc, doc)?)
+}
+
+/// The case that a document without faults is.
+fn case_of(alloc: Global, doc: &Doc) -> Result<ReadCase, NoMemory>
+    requires { faults_in (document doc.now) ≡ [] }
+    ensures document { IfOk result (λ c. case_document_of_read c ≡ case_document_of (document doc.now)) }
+    ensures rules { IfOk result KeepsCaseRules }
+{
+    let features = names(alloc, doc.list_at("features"))?;
+    let table = table(alloc, doc, features.count())?;
+    let lifted = Lifted {
+        title: Word::of(alloc, doc.text_at("title"))?,
+        features,
+        valid: natural_at(doc, "valid"),
+        nodes: nodes(alloc, doc.list_at("nodes"))?,
+        relations: relations(alloc, doc.list_at("relations"))?,
+        systems: systems(alloc, doc.list_at("systems"))?,
+    };
+    Ok(ReadCase { lifted, table })
+}
+
+/// The table of a document over so many features. One without faults has a table, so that none is refused but for want of memory.
+fn table(alloc: Global, doc: &Doc, features: u16) -> Result<Table, NoMemory>
+    ensures rows { IfOk result (λ t. case_rows t.rows ≡ map reading.row_of (list_at (codes "table") (document doc.now))) }
+    ensures features { IfOk result (λ t. t.features ≡ features) }
+{
+    let Some(table) = doc.member("table") else {
+        return Err(NoMemory);
+    };
+    match read_table(alloc, table, features) {
+        Ok(table) => Ok(table),
+        Err(_) => Err(NoMemory),
+    }
+}

@@ -1,0 +1,5 @@
+//! The value that a document of a case says.
+
+pub mod lists;
+pub mod nodes;
+pub mod systems;
