@@ -1,0 +1,9 @@
+pub mod Functions
+pub mod Marks
+pub mod Numbers
+pub mod Walks
+pub mod Loops
+pub mod Ends
+pub mod Cuts
+pub mod Keys
+pub mod Values

@@ -1,0 +1,5 @@
+pub mod Truths
+pub mod Places
+pub mod AtWorld
+pub mod Keys
+pub mod OneWorld
