@@ -1,79 +1,61 @@
--- The answers of a build to the bytes of a bundle, one for each way in which it goes.
-use Rattle.std.proofs.Common.{lit<, ◌≡◌, refl, sym, ap, ◌∙◌, subst, ℕ, List, [], ◌∷◌, Bool, true, false}
-use Rattle.std.specs.Prelude.{Some, None, if◌then◌else◌}
+-- The answers of a build to the bytes of a bundle.
+use Rattle.std.proofs.Common.{◌≡◌, refl, sym, subst, ℕ, List, [], ◌∷◌, true}
+use Rattle.std.specs.Prelude.{Some, Contains}
 use Rattle.meaning.specs.Documents.{Document, Json, document_of, of_json}
-use Rattle.meaning.specs.ThinForm.{is_thin}
-use Rattle.meaning.specs.ThinCases.{thin_case}
+use Rattle.meaning.specs.BundlePlaces.{BundleFault}
 use Rattle.meaning.specs.CaseBytes.{case_bytes, case_data}
-use Rattle.meaning.specs.BundlePlaces.{is_table_value}
-use Rattle.meaning.specs.BundleRules.{no_table}
+use Rattle.meaning.specs.ThinCases.{thin_case}
+use Rattle.meaning.specs.Words.{Build}
 use Rattle.meaning.specs.Statuses.{BadBundle, Unsupported}
-use Rattle.meaning.specs.Words.{is_toml}
 use Rattle.meaning.specs.StrategyTests.{thin_bundle_passes, thin_bundle}
-use Rattle.meaning.specs.Answers.{Answer, Prints, refusal, BundleReading, Faulty, NotBuilt, Good, AfterBundle, IsBuildAnswer, ShowsCase, IsAnswer, bundle_in, unless_faulty, if_built}
-use Rattle.meaning.specs.Stages.{building_thin, built_form, faults_of_bytes, faults_of_table, faults_if_read}
-use Rattle.meaning.specs.Derivation.{bundle_of}
-use Rattle.meaning.proofs.StrategyBundleRules.{thin_passes_rules}
-use Rattle.meaning.proofs.StrategyReading.{thin_answer}
-use Rattle.workbench.specs.Run.{AnswersBundle, BuildsDocument}
+use Rattle.meaning.specs.Answers.{Answer, Prints, refusal, BundleReading, Faulty, NotBuilt, Good, AfterBundle, IsBuilt, IsBuildAnswer, built, ShowsCase, IsAnswer, bundle_in}
+use Rattle.meaning.specs.Stages.{building_thin}
+use Rattle.meaning.specs.Derivation.{Bundle, bundle_of}
+use Rattle.meaning.proofs.StrategyReading.{thin_document_is_built}
+use Rattle.doc_tree.specs.Places.{fault_of}
+use Rattle.workbench.specs.declared.status.Status.{Status}
+use Rattle.workbench.specs.declared.status.Status.TheVariants as status
+use Rattle.workbench.specs.DerivingStage.{deriving_cases}
+use Rattle.workbench.specs.Run.{Refuses}
+use Rattle.workbench.specs.Readings.{IsGoodBundle, StopsBundle}
 
--- what a reading of the bundle answers
-after : (name bytes : List ℕ) (r : BundleReading) (a : Answer) → bundle_in building_thin name bytes ≡ r
-    → AfterBundle r a (λ d b. IsBuildAnswer building_thin b ShowsCase a) → AnswersBundle name bytes a
-unfolding IsAnswer
-after name bytes r a e h = subst (λ x. AfterBundle x a (λ d b. IsBuildAnswer building_thin b ShowsCase a)) (sym e) h
+-- ---- what is built
 
-unread : (name bytes : List ℕ) → is_toml name ≡ true → bundle_in building_thin name bytes ≡ NotBuilt
-unfolding bundle_in
-unread name bytes e = rw e refl
+-- what is built at the stage of thin bundles is built at this one too
+same_built : (b : Bundle) (bytes : List ℕ) → IsBuilt building_thin b bytes → IsBuilt deriving_cases b bytes
+same_built b bytes i = record { product = i.product; few = i.few; build = i.build; short = i.short }
 
-read_json : (name bytes : List ℕ) → is_toml name ≡ false
-    → bundle_in building_thin name bytes ≡ unless_faulty (faults_of_bytes faults_of_table Json bytes) (if_built building_thin (document_of Json bytes))
-unfolding bundle_in
-read_json name bytes e = rw e refl
-
--- ---- the ways in which it goes
-
-pub toml_is_not_built : (name bytes : List ℕ) → is_toml name ≡ true → AnswersBundle name bytes (refusal Unsupported)
-toml_is_not_built name bytes e = after name bytes NotBuilt (refusal Unsupported) (unread name bytes e) refl
-
--- the one fault that is named
-table_missing : (a : Answer) → a ≡ refusal (BadBundle no_table) → AfterBundle (Faulty (no_table ∷ [])) a (λ d b. IsBuildAnswer building_thin b ShowsCase a)
-table_missing a e = (no_table, (0, lit< tt, refl), e)
-
-pub no_document_is_faulty : (name bytes : List ℕ) → is_toml name ≡ false → document_of Json bytes ≡ None → AnswersBundle name bytes (refusal (BadBundle no_table))
-no_document_is_faulty name bytes json none =
-    after name bytes (Faulty (no_table ∷ [])) (refusal (BadBundle no_table))
-    (read_json name bytes json ∙ ap (λ o. unless_faulty (faults_if_read faults_of_table o) (if_built building_thin o)) none)
-    (table_missing (refusal (BadBundle no_table)) refl)
-
-read_document : (name bytes : List ℕ) (d : Document) → is_toml name ≡ false → document_of Json bytes ≡ Some d
-    → bundle_in building_thin name bytes ≡ unless_faulty (faults_of_table d) (if_built building_thin (Some d))
-read_document name bytes d json is =
-    read_json name bytes json ∙ ap (λ o. unless_faulty (faults_if_read faults_of_table o) (if_built building_thin o)) is
-
-pub no_table_is_faulty : (d : Document) → is_table_value d ≡ false → BuildsDocument d (refusal (BadBundle no_table))
-no_table_is_faulty d none name bytes json is =
-    after name bytes (Faulty (no_table ∷ [])) (refusal (BadBundle no_table))
-    (read_document name bytes d json is ∙ faulty)
-    (table_missing (refusal (BadBundle no_table)) refl)
-  where
-    faulty : unless_faulty (faults_of_table d) (if_built building_thin (Some d)) ≡ Faulty (no_table ∷ [])
-    faulty = rw none refl
-
-built_or_not : (d : Document) (b : Bool) → is_table_value d ≡ true → thin_bundle_passes d ≡ b
-    → unless_faulty (faults_of_table d) (if_built building_thin (Some d)) ≡ (if b then Good d (bundle_of d) else NotBuilt)
-built_or_not d b table passes =
-    let form : built_form is_thin d ≡ b = sym (thin_passes_rules d) ∙ passes in
-    rw (table, form) refl
-
-pub other_form_is_not_built : (d : Document) → is_table_value d ≡ true → thin_bundle_passes d ≡ false → BuildsDocument d (refusal Unsupported)
-other_form_is_not_built d table passes name bytes json is =
-    after name bytes NotBuilt (refusal Unsupported) (read_document name bytes d json is ∙ built_or_not d false table passes) refl
-
-pub thin_is_answered : (d : Document) (case : List ℕ) → is_table_value d ≡ true → thin_bundle_passes d ≡ true
+pub thin_is_built_here : (d : Document) (case : List ℕ) → thin_bundle_passes d ≡ true
     → case ≡ case_bytes (thin_case (thin_bundle d)) → document_of Json case ≡ Some (of_json (case_data (thin_case (thin_bundle d))))
-    → BuildsDocument d (Prints case)
-thin_is_answered d case table passes written reads name bytes json is =
-    after name bytes (Good d (bundle_of d)) (Prints case) (read_document name bytes d json is ∙ built_or_not d true table passes)
-    (thin_answer d case passes written reads)
+    → IsBuildAnswer deriving_cases (bundle_of d) ShowsCase (Prints case)
+thin_is_built_here d case passes written reads = built case (same_built (bundle_of d) case (thin_document_is_built d case passes written reads)) refl
+
+-- ---- answers
+
+module _ (name bytes : List ℕ) where
+  after : (r : BundleReading) (a : Answer) → bundle_in deriving_cases name bytes ≡ r
+      → AfterBundle r a (λ d b. IsBuildAnswer deriving_cases b ShowsCase a) → IsAnswer deriving_cases (Build name) (bytes ∷ []) a
+  unfolding IsAnswer
+  after r a e h = subst (λ x. AfterBundle x a (λ d b. IsBuildAnswer deriving_cases b ShowsCase a)) (sym e) h
+
+  pub build_answered : (d : Document) (a : Answer) → IsGoodBundle (bundle_in deriving_cases name bytes) d
+      → IsBuildAnswer deriving_cases (bundle_of d) ShowsCase a → IsAnswer deriving_cases (Build name) (bytes ∷ []) a
+  build_answered d a i h = after (Good d (bundle_of d)) a i.good h
+
+  -- one of the faults is named
+  faulty : (fs : List BundleFault) (f : BundleFault) → bundle_in deriving_cases name bytes ≡ Faulty fs → Contains fs f
+      → IsAnswer deriving_cases (Build name) (bytes ∷ []) (refusal (BadBundle f))
+  faulty fs f e h = after (Faulty fs) (refusal (BadBundle f)) e (f, h, refl)
+
+  pub build_refused : (s : Status) → StopsBundle (bundle_in deriving_cases name bytes) s → Refuses (IsAnswer deriving_cases (Build name) (bytes ∷ [])) s
+  build_refused status.Done h = absurd h
+  build_refused status.BadWords h = absurd h
+  build_refused (status.BadBundle f) h = faulty h.0 (fault_of f) h.1 h.2
+  build_refused (status.BadConfig rule at) h = absurd h
+  build_refused status.NotValid h = absurd h
+  build_refused (status.BadCase fault) h = absurd h
+  build_refused (status.TooLong k) h = absurd h
+  build_refused (status.ReadFault k) h = absurd h
+  build_refused status.WriteFault h = absurd h
+  build_refused status.NoMemory h = tt
+  build_refused status.Unsupported h = after NotBuilt (refusal Unsupported) h refl

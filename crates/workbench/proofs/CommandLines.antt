@@ -1,107 +1,109 @@
 -- What a command line is, word by word, and against the words of a program that knows more commands.
-use Rattle.std.proofs.Common.{◌≡◌, refl, sym, ap, ℕ, List, [], ◌∷◌, length, map, get_or, String, Global, string_bytes, arith}
+use Rattle.std.proofs.Common.{◌≡◌, refl, sym, ap, ◌∙◌, ℕ, List, [], ◌∷◌, length, map, get_or, String, Global, string_bytes, arith}
 use Rattle.std.specs.Prelude.{◌^◌, ◌-◌, Bool, true, false, if◌then◌else◌, Option, Some, None, option_map, option_and_then, codes, bytes_eq}
 use Rattle.std.proofs.lemmas.Slice.Eq.{bytes_eq-Decides}
-use Rattle.meaning.specs.Words.{Task, Build, Derive, Product, Evidence, TestRules, Audit, Report, Replay, Generate, Workload, Invocation, number_within, generated, task_of_one, task_of_two, task_of_three, with_limit, default_limit, either_of, if_known, knows_build, limit_of, invocation_of}
-use Rattle.workbench.specs.PlainWords.{plain_invocation, build_of}
+use Rattle.meaning.specs.Words.{Task, Build, Derive, Product, Evidence, TestRules, Audit, Report, Replay, Generate, Workload, Invocation, number_within, generated, task_of_one, task_of_two, task_of_three, with_limit, default_limit, either_of, if_known, knows_deriving, limit_of, invocation_of}
+use Rattle.workbench.specs.PlainWords.{plain_invocation, plain_task_of_one, plain_task_of_two}
 
--- five words, each told by its place
-pub five_words : (ws : List (String Global)) (a b o n : String Global) → length ws ≡ 5
-    → a ≡ get_or ws 1 a → b ≡ get_or ws 2 b → o ≡ get_or ws 3 o → n ≡ get_or ws 4 n
-    → build_of (string_bytes a) (string_bytes b) (limit_of (string_bytes o) (string_bytes n)) ≡ plain_invocation (map string_bytes ws)
-five_words [] a b o n l ea eb eo en = absurd (omega (arith, l))
-five_words (p ∷ []) a b o n l ea eb eo en = absurd (omega (arith, l))
-five_words (p ∷ q ∷ []) a b o n l ea eb eo en = absurd (omega (arith, l))
-five_words (p ∷ q ∷ r ∷ []) a b o n l ea eb eo en = absurd (omega (arith, l))
-five_words (p ∷ q ∷ r ∷ s ∷ []) a b o n l ea eb eo en = absurd (omega (arith, l))
-five_words (p ∷ q ∷ r ∷ s ∷ t ∷ []) a b o n l ea eb eo en = rw (ea, eb, eo, en) refl
-five_words (p ∷ q ∷ r ∷ s ∷ t ∷ u ∷ ws) a b o n l ea eb eo en = absurd (omega (arith, l))
+-- six words, each told by its place
+pub six_words : (ws : List (String Global)) (a b c o n : String Global) → length ws ≡ 6
+    → a ≡ get_or ws 1 a → b ≡ get_or ws 2 b → c ≡ get_or ws 3 c → o ≡ get_or ws 4 o → n ≡ get_or ws 5 n
+    → with_limit (limit_of (string_bytes o) (string_bytes n)) (plain_task_of_two (string_bytes a) (string_bytes b) (string_bytes c)) ≡ plain_invocation (map string_bytes ws)
+six_words [] a b c o n l ea eb ec eo en = absurd (omega (arith, l))
+six_words (p ∷ []) a b c o n l ea eb ec eo en = absurd (omega (arith, l))
+six_words (p ∷ q ∷ []) a b c o n l ea eb ec eo en = absurd (omega (arith, l))
+six_words (p ∷ q ∷ r ∷ []) a b c o n l ea eb ec eo en = absurd (omega (arith, l))
+six_words (p ∷ q ∷ r ∷ s ∷ []) a b c o n l ea eb ec eo en = absurd (omega (arith, l))
+six_words (p ∷ q ∷ r ∷ s ∷ t ∷ []) a b c o n l ea eb ec eo en = absurd (omega (arith, l))
+six_words (p ∷ q ∷ r ∷ s ∷ t ∷ u ∷ []) a b c o n l ea eb ec eo en = rw (ea, eb, ec, eo, en) refl
+six_words (p ∷ q ∷ r ∷ s ∷ t ∷ u ∷ v ∷ ws) a b c o n l ea eb ec eo en = absurd (omega (arith, l))
 
--- ---- the words of a program that knows all commands, of which `build` alone is known
+-- ---- the words of a program that knows all commands, of which three are known
 
--- what is left of a task where `build` alone is known
+-- what is left of a task where only `build`, `derive` and `product` are known
 abbrev known : Option ℕ → Option Task → Option Invocation
-known limit task = option_and_then (if_known knows_build) (with_limit limit task)
+known limit task = option_and_then (if_known knows_deriving) (with_limit limit task)
 
-known_one : (limit : Option ℕ) (word a : List ℕ) → known limit (task_of_one word a) ≡ build_of word a limit
-known_one limit word a = go (bytes_eq word (codes "build")) (bytes_eq word (codes "rules")) (bytes_eq word (codes "report")) limit
+nothing_known : (limit : Option ℕ) → known limit None ≡ None
+nothing_known None = refl
+nothing_known (Some n) = refl
+
+no_task : (limit : Option ℕ) → with_limit limit None ≡ None
+no_task None = refl
+no_task (Some n) = refl
+
+unknown_task : (limit : Option ℕ) (t : Task) → knows_deriving t ≡ false → known limit (Some t) ≡ with_limit limit None
+unknown_task None t e = refl
+unknown_task (Some n) t e = rw e refl
+
+known_task : (limit : Option ℕ) (t : Task) → knows_deriving t ≡ true → known limit (Some t) ≡ with_limit limit (Some t)
+known_task None t e = refl
+known_task (Some n) t e = rw e refl
+
+no_more : (limit : Option ℕ) → known limit None ≡ with_limit limit None
+no_more limit = nothing_known limit ∙ sym (no_task limit)
+
+known_one : (limit : Option ℕ) (word a : List ℕ) → known limit (task_of_one word a) ≡ with_limit limit (plain_task_of_one word a)
+known_one limit word a = go (bytes_eq word (codes "build")) (bytes_eq word (codes "rules")) (bytes_eq word (codes "report"))
   where
-    go : (b r p : Bool) (limit : Option ℕ)
+    go : (b r p : Bool)
         → known limit (if b then Some (Build a) else (if r then Some (TestRules a) else (if p then Some (Report a) else None)))
-        ≡ (if b then option_map (λ n. record { task = Build a; node_limit = n }) limit else None)
-    go true r p None = refl
-    go true r p (Some n) = refl
-    go false true p None = refl
-    go false true p (Some n) = refl
-    go false false true None = refl
-    go false false true (Some n) = refl
-    go false false false None = refl
-    go false false false (Some n) = refl
+        ≡ with_limit limit (if b then Some (Build a) else None)
+    go true r p = known_task limit (Build a) refl
+    go false true p = unknown_task limit (TestRules a) refl
+    go false false true = unknown_task limit (Report a) refl
+    go false false false = no_more limit
 
-unknown_generated : (limit : Option ℕ) (number size : Option ℕ) (make : ℕ → ℕ → Task) → ((n s : ℕ) → knows_build (make n s) ≡ false)
-    → known limit (option_and_then (λ n. option_map (make n) size) number) ≡ None
-unknown_generated limit None size make h = go limit
-  where
-    go : (limit : Option ℕ) → known limit None ≡ None
-    go None = refl
-    go (Some n) = refl
-unknown_generated limit (Some n) None make h = go limit
-  where
-    go : (limit : Option ℕ) → known limit None ≡ None
-    go None = refl
-    go (Some n) = refl
-unknown_generated None (Some n) (Some s) make h = refl
-unknown_generated (Some l) (Some n) (Some s) make h = rw (h n s) refl
+unknown_generated : (limit : Option ℕ) (number size : Option ℕ) (make : ℕ → ℕ → Task) → ((n s : ℕ) → knows_deriving (make n s) ≡ false)
+    → known limit (option_and_then (λ n. option_map (make n) size) number) ≡ with_limit limit None
+unknown_generated limit None size make h = no_more limit
+unknown_generated limit (Some n) None make h = no_more limit
+unknown_generated limit (Some n) (Some s) make h = unknown_task limit (make n s) (h n s)
 
-known_two : (limit : Option ℕ) (word a b : List ℕ) → known limit (task_of_two word a b) ≡ None
+known_two : (limit : Option ℕ) (word a b : List ℕ) → known limit (task_of_two word a b) ≡ with_limit limit (plain_task_of_two word a b)
 known_two limit word a b =
     go (bytes_eq word (codes "derive")) (bytes_eq word (codes "product")) (bytes_eq word (codes "evidence")) (bytes_eq word (codes "audit"))
-    (bytes_eq word (codes "generate")) (bytes_eq word (codes "workload")) limit
+    (bytes_eq word (codes "generate")) (bytes_eq word (codes "workload"))
   where
-    go : (d p e u g w : Bool) (limit : Option ℕ)
+    go : (d p e u g w : Bool)
         → known limit (if d then Some (Derive a b) else (if p then Some (Product a b) else (if e then Some (Evidence a b)
-        else (if u then Some (Audit a b) else (if g then generated Generate a b else (if w then generated Workload a b else None)))))) ≡ None
-    go true p e u g w None = refl
-    go true p e u g w (Some n) = refl
-    go false true e u g w None = refl
-    go false true e u g w (Some n) = refl
-    go false false true u g w None = refl
-    go false false true u g w (Some n) = refl
-    go false false false true g w None = refl
-    go false false false true g w (Some n) = refl
-    go false false false false true w limit =
+        else (if u then Some (Audit a b) else (if g then generated Generate a b else (if w then generated Workload a b else None))))))
+        ≡ with_limit limit (if d then Some (Derive a b) else (if p then Some (Product a b) else None))
+    go true p e u g w = known_task limit (Derive a b) refl
+    go false true e u g w = known_task limit (Product a b) refl
+    go false false true u g w = unknown_task limit (Evidence a b) refl
+    go false false false true g w = unknown_task limit (Audit a b) refl
+    go false false false false true w =
         unknown_generated limit (number_within 0 (2 ^ 32 - 1) a) (number_within 3 200 b) Generate (λ n s. refl)
-    go false false false false false true limit =
+    go false false false false false true =
         unknown_generated limit (number_within 0 (2 ^ 32 - 1) a) (number_within 3 200 b) Workload (λ n s. refl)
-    go false false false false false false None = refl
-    go false false false false false false (Some n) = refl
+    go false false false false false false = no_more limit
 
 known_three : (limit : Option ℕ) (word a b c : List ℕ) → known limit (task_of_three word a b c) ≡ None
-known_three limit word a b c = go (bytes_eq word (codes "replay")) limit
+known_three limit word a b c = go (bytes_eq word (codes "replay"))
   where
-    go : (r : Bool) (limit : Option ℕ) → known limit (if r then Some (Replay a b c) else None) ≡ None
-    go true None = refl
-    go true (Some n) = refl
-    go false None = refl
-    go false (Some n) = refl
+    go : (r : Bool) → known limit (if r then Some (Replay a b c) else None) ≡ None
+    go true = unknown_task limit (Replay a b c) refl ∙ no_task limit
+    go false = nothing_known limit
 
 same_text : (s t : List ℕ) → bytes_eq s t ≡ true → s ≡ t
 same_text s t e = (bytes_eq-Decides s t).0 e
 
 -- four words after the program's name: the three of `replay`, or one with a limit
 known_four : (word a b c : List ℕ)
-    → option_and_then (if_known knows_build) (either_of (with_limit (Some default_limit) (task_of_three word a b c)) (with_limit (limit_of b c) (task_of_one word a)))
-    ≡ build_of word a (limit_of b c)
+    → option_and_then (if_known knows_deriving) (either_of (with_limit (Some default_limit) (task_of_three word a b c)) (with_limit (limit_of b c) (task_of_one word a)))
+    ≡ with_limit (limit_of b c) (plain_task_of_one word a)
 known_four word a b c = go (bytes_eq word (codes "replay")) refl
   where
     go : (r : Bool) → bytes_eq word (codes "replay") ≡ r
-        → option_and_then (if_known knows_build)
+        → option_and_then (if_known knows_deriving)
         (either_of (with_limit (Some default_limit) (if r then Some (Replay a b c) else None)) (with_limit (limit_of b c) (task_of_one word a)))
-        ≡ build_of word a (limit_of b c)
+        ≡ with_limit (limit_of b c) (plain_task_of_one word a)
     go false e = known_one (limit_of b c) word a
-    go true e = ap (λ w. build_of w a (limit_of b c)) (sym (same_text word (codes "replay") e))
+    go true e =
+        sym (no_task (limit_of b c)) ∙ ap (λ w. with_limit (limit_of b c) (plain_task_of_one w a)) (sym (same_text word (codes "replay") e))
 
-pub known_words : (words : List (List ℕ)) → invocation_of knows_build words ≡ plain_invocation words
+pub known_words : (words : List (List ℕ)) → invocation_of knows_deriving words ≡ plain_invocation words
 unfolding invocation_of
 known_words [] = refl
 known_words (p ∷ []) = refl

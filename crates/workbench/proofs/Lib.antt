@@ -1,8 +1,16 @@
+pub mod Exits
+pub mod FileReads
 pub mod CommandLines
 pub mod StatusLines
 pub mod NewNames
 pub mod NodeNumbers
+pub mod BundleReadings
 pub mod BuildAnswers
+pub mod WorldReadings
+pub mod TextAnswers
+pub mod ThinCuts
+pub mod TaskAnswers
+pub mod DerivedProducts
 pub mod TopCauses
 pub mod HoleSteps
 pub mod ThinPieces

@@ -1,19 +1,18 @@
 -- From what the parts of the top call did to the causes that its promise gives.
-use Rattle.std.proofs.Common.{◌≡◌, refl, sym, ap, ◌∙◌, subst, inl, inr, ℕ, ◌<◌, lit≤, List, [], ◌∷◌, length, arith}
+use Rattle.std.proofs.Common.{◌≡◌, refl, sym, ap, ◌∙◌, subst, inl, inr, ℕ, lit≤, List, [], ◌∷◌, length, arith}
 use Rattle.std.specs.Prelude.{◌⊎◌, Option, Some, None}
 use Rattle.std.proofs.lemmas.List.{take_all, append-nil}
-use Rattle.std.specs.List.{slice_get}
 use Rattle.meaning.specs.Counts.{appended}
 use Rattle.meaning.specs.Statuses as meaning
 use Rattle.meaning.specs.Statuses.{status_line}
-use Rattle.meaning.specs.Words.{Build, File, files_of, bundle_file}
+use Rattle.meaning.specs.Words.{Task, File, files_of}
 use Rattle.meaning.specs.Answers.{Answer, Prints}
-use Rattle.meaning.specs.Stages.{building_thin}
 use Rattle.meaning.specs.TopCall.{Outside, Says, IfTold, AgreeWith, Answered, Cause, OutKept, LinesOf, NoLimit, PlainPromise}
 use Rattle.workbench.specs.declared.status.Status.{Status}
 use Rattle.workbench.specs.declared.status.Status.TheVariants as status
 use Rattle.workbench.specs.StatusView.{status_view}
-use Rattle.workbench.specs.Run.{shelf_of, AnswersBundle, IsFileOf, StopsFile, Stops, Printed}
+use Rattle.workbench.specs.DerivingStage.{deriving_cases}
+use Rattle.workbench.specs.Run.{shelf_of, AnswersTask, StopsTask, Stops, Printed}
 
 -- ---- what is said
 
@@ -32,50 +31,47 @@ pub nothing_said : (old : Option (List ℕ)) (faults : ℕ) → Says old old fau
 unfolding status_line
 nothing_said old faults = record { count = 0; grew = nothing_more old; whole = inl (lit≤ tt) }
 
--- ---- the file of a bundle
+-- ---- the task that the words are
 
-module _ (words : List (List ℕ)) (before after : Outside) (name : List ℕ) (limit : ℕ)
-    (reads : building_thin.reads words ≡ Some (record { task = Build name; node_limit = limit })) where
-  pub answers_file : (answer : Answer) → IsFileOf (before.holds name) (λ bytes. AnswersBundle name bytes answer) → Answered building_thin words before answer
-  answers_file answer f = record {
-    invocation = record { task = Build name; node_limit = limit };
+module _ (words : List (List ℕ)) (before after : Outside) (task : Task) (limit : ℕ)
+    (reads : deriving_cases.reads words ≡ Some (record { task = task; node_limit = limit })) where
+  pub words_answered : (answer : Answer) → AnswersTask task before answer → Answered deriving_cases words before answer
+  words_answered answer a = record {
+    invocation = record { task = task; node_limit = limit };
     reads = reads;
-    files = f.bytes ∷ [];
-    agree = (f.agree, (f.short, tt));
-    is = f.fact;
+    files = a.files;
+    agree = a.agree;
+    is = a.is;
   }
 
-  none_before : (k : ℕ) → k ≡ 0 → (j : ℕ) → j < k → ⊥
-  none_before k e j l = omega (arith, e, l)
-
-  first_file : (k : ℕ) → k ≡ 0 → slice_get (bundle_file name ∷ []) k ≡ Some (bundle_file name)
-  first_file k e = rw e refl
-
-  pub stops_file : (s : Status) → StopsFile name before after s → Stops words before after s
-  stops_file status.Done f = absurd f.fact
-  stops_file status.BadWords f = absurd f.fact
-  stops_file (status.BadBundle fault) f = record { answer = answers_file _ f }
-  stops_file (status.TooLong file) f = record {
-    invocation = record { task = Build name; node_limit = limit };
+  pub words_stop : (s : Status) → StopsTask task before after s → Stops words before after s
+  words_stop status.Done h = absurd h
+  words_stop status.BadWords h = absurd h
+  words_stop (status.BadBundle fault) h = record { answer = words_answered _ h }
+  words_stop (status.BadConfig rule at) h = record { answer = words_answered _ h }
+  words_stop status.NotValid h = record { answer = words_answered _ h }
+  words_stop (status.BadCase fault) h = record { answer = words_answered _ h }
+  words_stop (status.TooLong file) h = record {
+    invocation = record { task = task; node_limit = limit };
     reads = reads;
-    file = bundle_file name;
-    is_file = first_file file f.0;
-    earlier = λ j g l e. absurd (none_before file f.0 j l);
-    place = f.1.place;
-    taken = f.1.taken;
-    longer = f.1.longer;
+    file = h.file;
+    is_file = h.is_file;
+    earlier = h.earlier;
+    place = h.place;
+    taken = h.taken;
+    longer = h.longer;
   }
-  stops_file (status.ReadFault file) f = record {
-    invocation = record { task = Build name; node_limit = limit };
+  words_stop (status.ReadFault file) h = record {
+    invocation = record { task = task; node_limit = limit };
     reads = reads;
-    file = bundle_file name;
-    is_file = first_file file f.0;
-    earlier = λ j g l e. absurd (none_before file f.0 j l);
-    cause = f.1;
+    file = h.file;
+    is_file = h.is_file;
+    earlier = h.earlier;
+    cause = h.cause;
   }
-  stops_file status.WriteFault f = absurd f.fact
-  stops_file status.NoMemory f = tt
-  stops_file status.Unsupported f = record { answer = answers_file _ f }
+  words_stop status.WriteFault h = absurd h
+  words_stop status.NoMemory h = tt
+  words_stop status.Unsupported h = record { answer = words_answered _ h }
 
 -- ---- the outside around the shelf
 
@@ -93,8 +89,8 @@ module _ (words : List (List ℕ)) (before after : Outside) where
   shelf_after : Outside
   shelf_after = shelf_of after.holds after.faults after.next after.given
 
-  pub answered_outside : (answer : Answer) → Answered building_thin words (shelf_of before.holds before.faults before.next before.given) answer
-      → Answered building_thin words before answer
+  pub answered_outside : (answer : Answer) → Answered deriving_cases words (shelf_of before.holds before.faults before.next before.given) answer
+      → Answered deriving_cases words before answer
   answered_outside answer a = record {
     invocation = a.invocation;
     reads = a.reads;
@@ -104,10 +100,13 @@ module _ (words : List (List ℕ)) (before after : Outside) where
   }
 
   cause_outside : (s : Status) → Stops words (shelf_of before.holds before.faults before.next before.given) (shelf_of after.holds after.faults after.next after.given) s
-      → Cause building_thin words before after NoLimit (status_line (status_view s)) (status_view s)
+      → Cause deriving_cases words before after NoLimit (status_line (status_view s)) (status_view s)
   cause_outside status.Done h = absurd h
   cause_outside status.BadWords h = h
   cause_outside (status.BadBundle fault) h = record { answer = answered_outside _ h.answer }
+  cause_outside (status.BadConfig rule at) h = record { answer = answered_outside _ h.answer }
+  cause_outside status.NotValid h = record { answer = answered_outside _ h.answer }
+  cause_outside (status.BadCase fault) h = record { answer = answered_outside _ h.answer }
   cause_outside (status.TooLong file) h = record {
     invocation = h.invocation;
     reads = h.reads;
@@ -135,6 +134,9 @@ module _ (words : List (List ℕ)) (before after : Outside) where
   out_kept status.Done h e = tt
   out_kept status.BadWords h e = e
   out_kept (status.BadBundle fault) h e = e
+  out_kept (status.BadConfig rule at) h e = e
+  out_kept status.NotValid h e = e
+  out_kept (status.BadCase fault) h e = e
   out_kept (status.TooLong file) h e = e
   out_kept (status.ReadFault file) h e = e
   out_kept status.WriteFault h e = tt
@@ -145,6 +147,9 @@ module _ (words : List (List ℕ)) (before after : Outside) where
   lines_of status.Done = refl
   lines_of status.BadWords = refl
   lines_of (status.BadBundle fault) = refl
+  lines_of (status.BadConfig rule at) = refl
+  lines_of status.NotValid = refl
+  lines_of (status.BadCase fault) = refl
   lines_of (status.TooLong file) = refl
   lines_of (status.ReadFault file) = refl
   lines_of status.WriteFault = refl
@@ -153,7 +158,7 @@ module _ (words : List (List ℕ)) (before after : Outside) where
 
   pub stopped_promise : (s : Status) → Stops words (shelf_of before.holds before.faults before.next before.given) (shelf_of after.holds after.faults after.next after.given) s
       → after.out ≡ before.out → Says before.err after.err before.err_faults after.err_faults (status_line (status_view s))
-      → PlainPromise building_thin words before after (status_view s)
+      → PlainPromise deriving_cases words before after (status_view s)
   stopped_promise s h e said = record {
     lines = status_line (status_view s);
     cause = cause_outside s h;
@@ -165,16 +170,16 @@ module _ (words : List (List ℕ)) (before after : Outside) where
   -- the status, or want of memory in its place
   pub refused_promise : (s r : Status) → Stops words (shelf_of before.holds before.faults before.next before.given) (shelf_of after.holds after.faults after.next after.given) s
       → (r ≡ s) ⊎ (r ≡ status.NoMemory) → after.out ≡ before.out → Says before.err after.err before.err_faults after.err_faults (status_line (status_view r))
-      → PlainPromise building_thin words before after (status_view r)
+      → PlainPromise deriving_cases words before after (status_view r)
   refused_promise s r h (inl same) e said =
       stopped_promise r (subst (λ x. Stops words (shelf_of before.holds before.faults before.next before.given) (shelf_of after.holds after.faults after.next after.given) x) (sym same) h) e said
   refused_promise s r h (inr none) e said =
       stopped_promise r (subst (λ x. Stops words (shelf_of before.holds before.faults before.next before.given) (shelf_of after.holds after.faults after.next after.given) x) (sym none) tt) e said
 
-  pub printed_promise : (s : Status) (bytes : List ℕ) → Answered building_thin words (shelf_of before.holds before.faults before.next before.given) (Prints bytes)
+  pub printed_promise : (s : Status) (bytes : List ℕ) → Answered deriving_cases words (shelf_of before.holds before.faults before.next before.given) (Prints bytes)
       → Printed s before.out after.out before.out_faults after.out_faults bytes
       → Says before.err after.err before.err_faults after.err_faults (status_line (status_view s))
-      → PlainPromise building_thin words before after (status_view s)
+      → PlainPromise deriving_cases words before after (status_view s)
   printed_promise status.Done bytes a p said = record {
     lines = status_line meaning.Done;
     cause = record { bytes = bytes; answer = answered_outside (Prints bytes) a; printed = p };
@@ -191,6 +196,9 @@ module _ (words : List (List ℕ)) (before after : Outside) where
   }
   printed_promise status.BadWords bytes a p said = absurd p
   printed_promise (status.BadBundle fault) bytes a p said = absurd p
+  printed_promise (status.BadConfig rule at) bytes a p said = absurd p
+  printed_promise status.NotValid bytes a p said = absurd p
+  printed_promise (status.BadCase fault) bytes a p said = absurd p
   printed_promise (status.TooLong file) bytes a p said = absurd p
   printed_promise (status.ReadFault file) bytes a p said = absurd p
   printed_promise status.NoMemory bytes a p said = absurd p

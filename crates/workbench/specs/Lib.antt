@@ -1,7 +1,11 @@
 pub mod PlainWords
 pub mod WordsView
 pub mod StatusView
+pub mod DerivingStage
 pub mod ItemNames
 pub mod Run
+pub mod Readings
+pub mod Stopped
 pub mod HoleTexts
 pub mod ThinParts
+pub mod ThinWorlds

@@ -1,15 +1,15 @@
 -- What the top call stands on and leaves: the outside as its traits tell it, and the causes of an answer or a refusal.
+use Rattle.std.specs.Prelude.{◌≡◌, ◌+◌, ◌<◌, ◌≤◌, length, take, ℕ, ⊤, List, Option, None, Some}
+use Rattle.std.specs.List.{slice_get}
 use Rattle.meaning.specs.Counts.{Rose, RoseBy, appended}
-use Rattle.std.specs.Prelude.{◌≡◌, ◌<◌, ◌≤◌, length, take, ℕ, ⊤, List, [], ◌∷◌, false, Option, None, Some}
 use Rattle.meaning.specs.Statuses.{status_line}
-use Rattle.meaning.specs.Words.{Build, is_toml}
-use Rattle.meaning.specs.Documents.{Document, Json, document_of}
+use Rattle.meaning.specs.Words.{Task, File, files_of}
 use Rattle.meaning.specs.Answers.{Answer, IsAnswer, refusal}
-use Rattle.meaning.specs.Stages.{building_thin}
-use Rattle.meaning.specs.TopCall.{Outside, IfTold, Cause, NoLimit}
+use Rattle.meaning.specs.TopCall.{Outside, IfTold, AgreeWith, WithinBefore, Cause, NoLimit}
 use Rattle.workbench.specs.declared.status.Status.{Status}
 use Rattle.workbench.specs.declared.status.Status.TheVariants as status
 use Rattle.workbench.specs.StatusView.{status_view}
+use Rattle.workbench.specs.DerivingStage.{deriving_cases}
 
 abbrev pub outside_of : (holds : List ℕ → Option (List ℕ)) (faults : List ℕ → ℕ) (next : ℕ) (given : List ℕ → ℕ)
     (out : Option (List ℕ)) (out_faults : ℕ) (err : Option (List ℕ)) (err_faults : ℕ) → Outside
@@ -28,9 +28,53 @@ outside_of holds faults next given out out_faults err err_faults = record {
 abbrev pub shelf_of : (holds : List ℕ → Option (List ℕ)) (faults : List ℕ → ℕ) (next : ℕ) (given : List ℕ → ℕ) → Outside
 shelf_of holds faults next given = outside_of holds faults next given None 0 None 0
 
--- the answer to the bytes of a bundle file
-abbrev pub AnswersBundle : (name bytes : List ℕ) → Answer → Type 0
-AnswersBundle name bytes answer = IsAnswer building_thin (Build name) (bytes ∷ []) answer
+-- ---- files
+
+abbrev pub file_of : (name : List ℕ) (most : ℕ) → File
+file_of name most = record { name = name; most = most }
+
+-- the bytes of a file, where the shelf tells them, and no more than it may have
+pub record IsFileOf (told : Option (List ℕ)) (most : ℕ) (bytes : List ℕ) : Type 0 where
+  pub agree : IfTold told bytes
+  pub short : length bytes ≤ most
+
+-- file k of a task was not read, and those before it were
+pub record NotReadOf (files : List File) (before after : Outside) (k : ℕ) : Type 0 where
+  pub file : File
+  pub is_file : slice_get files k ≡ Some file
+  pub earlier : WithinBefore before files k
+  pub cause : Rose (before.faults file.name) (after.faults file.name)
+
+-- one byte more than its limit was taken of file k, and those before it were read
+pub record IsTooLongOf (files : List File) (before after : Outside) (k : ℕ) : Type 0 where
+  pub file : File
+  pub is_file : slice_get files k ≡ Some file
+  pub earlier : WithinBefore before files k
+  pub place : after.next ≡ file.most + 1
+  pub taken : RoseBy (before.given file.name) (after.given file.name) (file.most + 1)
+  pub longer : (bytes : List ℕ) → before.holds file.name ≡ Some bytes → file.most < length bytes
+
+-- one byte more than its limit was taken of a file
+pub record IsTooLongFile (file : File) (before after : Outside) : Type 0 where
+  pub place : after.next ≡ file.most + 1
+  pub taken : RoseBy (before.given file.name) (after.given file.name) (file.most + 1)
+  pub longer : (bytes : List ℕ) → before.holds file.name ≡ Some bytes → file.most < length bytes
+
+-- why the file with this number was not read
+abbrev pub StopsFile : (number : ℕ) → File → (before after : Outside) → Status → Type 0
+StopsFile number file before after (status.ReadFault k) = (k ≡ number) × Rose (before.faults file.name) (after.faults file.name)
+StopsFile number file before after (status.TooLong k) = (k ≡ number) × IsTooLongFile file before after
+StopsFile number file before after status.NoMemory = ⊤
+StopsFile number file before after s = ⊥
+
+-- why files were not all read
+abbrev pub StopsFiles : List File → (before after : Outside) → Status → Type 0
+StopsFiles files before after (status.ReadFault k) = NotReadOf files before after k
+StopsFiles files before after (status.TooLong k) = IsTooLongOf files before after k
+StopsFiles files before after status.NoMemory = ⊤
+StopsFiles files before after s = ⊥
+
+-- ---- answers
 
 -- this status is the answer; want of memory is none, and the statuses of reading, writing and words have other causes
 abbrev pub Refuses : (Answer → Type 0) → Status → Type 0
@@ -42,35 +86,23 @@ Refuses Is (status.ReadFault file) = ⊥
 Refuses Is status.WriteFault = ⊥
 Refuses Is s = Is (refusal (status_view s))
 
+-- the answer of a task to the bytes of its files
+pub record AnswersTask (task : Task) (before : Outside) (answer : Answer) : Type 0 where
+  pub files : List (List ℕ)
+  pub agree : AgreeWith before (files_of task) files
+  pub is : IsAnswer deriving_cases task files answer
+
+-- why a task has no answer that is printed
+abbrev pub StopsTask : Task → (before after : Outside) → Status → Type 0
+StopsTask task before after (status.ReadFault k) = NotReadOf (files_of task) before after k
+StopsTask task before after (status.TooLong k) = IsTooLongOf (files_of task) before after k
+StopsTask task before after s = Refuses (AnswersTask task before) s
+
 -- a status that comes before anything is written, with its cause
 abbrev pub Stops : (words : List (List ℕ)) → (before after : Outside) → Status → Type 0
 Stops words before after status.Done = ⊥
 Stops words before after status.WriteFault = ⊥
-Stops words before after s = Cause building_thin words before after NoLimit (status_line (status_view s)) (status_view s)
-
--- the answer to a bundle that is this document of JSON
-abbrev pub BuildsDocument : Document → Answer → Type 0
-BuildsDocument d answer = (name bytes : List ℕ) → is_toml name ≡ false → document_of Json bytes ≡ Some d → AnswersBundle name bytes answer
-
--- some bytes of the file, which are those that the shelf tells where it tells them, and no more than a bundle may have
-pub record IsFileOf (told : Option (List ℕ)) (Fact : List ℕ → Type 0) : Type 0 where
-  pub bytes : List ℕ
-  pub agree : IfTold told bytes
-  pub short : length bytes ≤ 16777216
-  pub fact : Fact bytes
-
--- one byte more than the limit was taken
-pub record IsTooLongFile (name : List ℕ) (before after : Outside) : Type 0 where
-  pub place : after.next ≡ 16777217
-  pub taken : RoseBy (before.given name) (after.given name) 16777217
-  pub longer : (bytes : List ℕ) → before.holds name ≡ Some bytes → 16777216 < length bytes
-
--- why the file of a bundle gave no case
-abbrev pub StopsFile : (name : List ℕ) → (before after : Outside) → Status → Type 0
-StopsFile name before after (status.ReadFault file) = (file ≡ 0) × Rose (before.faults name) (after.faults name)
-StopsFile name before after (status.TooLong file) = (file ≡ 0) × IsTooLongFile name before after
-StopsFile name before after status.NoMemory = ⊤
-StopsFile name before after s = IsFileOf (before.holds name) (λ bytes. Refuses (AnswersBundle name bytes) s)
+Stops words before after s = Cause deriving_cases words before after NoLimit (status_line (status_view s)) (status_view s)
 
 -- the bytes were written, or a front of them where the output failed
 abbrev pub Printed : Status → (old new : Option (List ℕ)) → (faults faults_new : ℕ) → List ℕ → Type 0

@@ -1,78 +1,35 @@
 //! From the bytes of a bundle to the bytes of its case.
 
-ghost use Rattle.std.specs.Prelude.{◌≡◌, ◌∷◌, [], IfOk, IfErr, Err, Some, None, true};
-ghost use Rattle.meaning.specs.Words as meaning;
-ghost use Rattle.meaning.specs.Documents.{Json, document_of};
-ghost use Rattle.meaning.specs.Answers.{Prints};
-ghost use Rattle.meaning.specs.BundlePlaces.{is_table_value};
+ghost use Rattle.std.specs.Prelude.{◌≡◌, ◌∷◌, [], IfOk, IfErr, true};
+ghost use Rattle.meaning.specs.Words.{Build};
+ghost use Rattle.meaning.specs.Answers.{Prints, IsAnswer, IsBuildAnswer, ShowsCase};
+ghost use Rattle.meaning.specs.Derivation.{bundle_of};
 ghost use Rattle.meaning.specs.StrategyTests.{thin_bundle_passes};
 ghost use Rattle.doc_tree.specs.View.{document};
-ghost use Rattle.workbench.specs.Run.{AnswersBundle, BuildsDocument, Refuses};
+ghost use Rattle.workbench.specs.DerivingStage.{deriving_cases};
+ghost use Rattle.workbench.specs.Run.{Refuses};
 
+use crate::bundle_file::read_bundle;
 use crate::status::Status;
-use crate::thin_bundle::is_thin_bundle;
 use crate::thin_case::case_of_bundle;
-use doc_tree::{BundleFault, Doc, DocStop, NoMemory, Part, from_json};
+use doc_tree::{Doc, NoMemory};
 use lifted_case::write_thin;
 use std::alloc::Global;
 
-/// The one rule that is answered: the file is a document with a table at the top.
-const NO_TABLE: BundleFault = BundleFault {
-    rule: 1,
-    part: Part::Document,
-    item: 0,
-    sub: 0,
-    at: 0,
-};
-
 /// The case of the bundle in a file of this name, or why there is none.
 pub fn build(alloc: Global, name: &str, bytes: &[u8]) -> Result<Vec<u8>, Status>
-    ensures built { IfOk result (λ v. AnswersBundle name.now bytes.now (Prints v.items)) }
-    ensures refused { IfErr result (Refuses (AnswersBundle name.now bytes.now)) }
+    ensures built { IfOk result (λ v. IsAnswer deriving_cases (Build name.now) (bytes.now ∷ []) (Prints v.items)) }
+    ensures refused { IfErr result (Refuses (IsAnswer deriving_cases (Build name.now) (bytes.now ∷ []))) }
 {
-    if is_toml(name) {
-        return Err(Status::Unsupported);
-    }
-    match from_json(alloc, bytes) {
-        Ok(bundle) => build_document(alloc, &bundle),
-        Err(DocStop::NotDocument) => Err(Status::BadBundle(NO_TABLE)),
-        Err(DocStop::NoMemory) => Err(Status::NoMemory),
-    }
-}
-
-/// Whether a file of this name is read as TOML.
-fn is_toml(name: &str) -> bool
-    ensures { result ≡ meaning.is_toml name.now }
-{
-    let bytes = name.as_bytes();
-    let suffix = b".toml".as_slice();
-    &bytes[bytes.len().saturating_sub(suffix.len())..] == suffix
-}
-
-/// The case of a bundle document, or why there is none.
-fn build_document(alloc: Global, bundle: &Doc) -> Result<Vec<u8>, Status>
-    ensures built { IfOk result (λ v. BuildsDocument (document bundle.now) (Prints v.items)) }
-    ensures refused { IfErr result (Refuses (BuildsDocument (document bundle.now))) }
-{
-    if !bundle.is_table() {
-        return Err(Status::BadBundle(NO_TABLE));
-    }
-    match is_thin_bundle(alloc, bundle) {
-        Ok(true) => {}
-        Ok(false) => return Err(Status::Unsupported),
-        Err(NoMemory) => return Err(Status::NoMemory),
-    }
-    match write_case(alloc, bundle) {
-        Ok(bytes) => Ok(bytes),
-        Err(NoMemory) => Err(Status::NoMemory),
-    }
+    let bundle = read_bundle(alloc, name, bytes)?;
+    let case = write_case(alloc, &bundle)?;
+    Ok(case)
 }
 
 /// The bytes of the case of a thin bundle.
 fn write_case(alloc: Global, bundle: &Doc) -> Result<Vec<u8>, NoMemory>
-    requires table { is_table_value (document bundle.now) ≡ true }
-    requires passes { thin_bundle_passes (document bundle.now) ≡ true }
-    ensures { IfOk result (λ v. BuildsDocument (document bundle.now) (Prints v.items)) }
+    requires { thin_bundle_passes (document bundle.now) ≡ true }
+    ensures { IfOk result (λ v. IsBuildAnswer deriving_cases (bundle_of (document bundle.now)) ShowsCase (Prints v.items)) }
 {
     let case = case_of_bundle(alloc, bundle)?;
     let bytes = write_thin(alloc, &case)?;

@@ -1,17 +1,29 @@
 //! The workbench: the one call that reads the words and the files, and answers.
 //!
-//! [`run`] promises what the record `PlainPromise` of `meaning` says at the stage of thin bundles, for every list of words, every shelf and every
-//! pair of sinks: the case that a build writes derives, for every configuration, to the same bytes or refusal as instantiating the templates
-//! on that configuration's own model, and each refusal has its cause. It is made of small steps, each with its contract: the words, the file,
-//! the document, the plain tests of thin bundles, the case, its bytes, the output.
+//! [`run`] promises what the record `PlainPromise` of `meaning` says at the stage `deriving_cases` of `specs/DerivingStage.antt`, for every
+//! list of words, every shelf and every pair of sinks. `build` writes the case of a thin bundle, `derive` the text of a case file, whoever wrote
+//! it, at a configuration, and `product` the text of a thin bundle's own product at a configuration. Each refusal has its cause, and the first
+//! one is told: of the words, of reading the files in their order, of the first file, of the configuration, and of the world that it names.
+//! A case that `build` wrote derives, for every configuration file, to the same bytes or refusal as the product of its bundle:
+//! `derive_agrees_with_product` of `proofs/DerivedProducts.antt`.
 //!
-//! Stands on `outside`, `doc_tree`, `cond_text` and `lifted_case`; `specs/Run.antt` has the words of its contracts.
+//! It is made of small steps, each with its contract: the words, the files, the document of a bundle and the plain tests of thin bundles, the
+//! case and its bytes, the world of a configuration, the case at that world and its text, the output.
+//!
+//! Stands on `outside` for files and sinks, on `doc_tree`, `cond_text`, `feature_model` and `lifted_case` for what the files say, on
+//! `case_derive`, `gsn` and `case_text` for the text of one product, and on `meaning`; `specs/Run.antt` and `specs/Readings.antt` have the words
+//! of its contracts.
 #![tactic(auto)]
 
 mod building;
+mod bundle_file;
+mod derived_text;
+mod files;
 mod hole_texts;
 mod item_names;
+mod product_text;
 mod status;
+mod tasks;
 #[cfg(test)]
 mod tests;
 mod texts;
@@ -22,8 +34,10 @@ mod thin_line;
 mod thin_model;
 mod thin_pieces;
 mod thin_template;
+mod thin_world;
 mod top;
 mod words;
+mod world;
 
 pub use status::Status;
 pub use top::run;

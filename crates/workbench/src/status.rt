@@ -2,8 +2,14 @@ ghost use Rattle.std.specs.Prelude.{◌≡◌, IfOk, string_bytes};
 ghost use Rattle.meaning.specs.Statuses as meaning;
 ghost use Rattle.workbench.specs.StatusView.{status_view};
 ghost use Rattle.doc_tree.specs.Places.{fault_of};
+ghost use Rattle.lifted_case.specs.CaseView.{fault_view};
+ghost use Rattle.workbench.specs.Stopped.{status_of_case_stop, status_of_config_stop, status_of_cut_stop};
+ghost use Rattle.workbench.specs.declared.status.Status.TheVariants as variant;
 
-use doc_tree::BundleFault;
+use case_derive::CutStop;
+use doc_tree::{BundleFault, NoMemory};
+use feature_model::ConfigStop;
+use lifted_case::{CaseFault, ReadCaseStop};
 use std::alloc::{AllocError, Global};
 
 /// How a call ended.
@@ -15,6 +21,12 @@ pub enum Status {
     BadWords,
     /// The bundle breaks this rule.
     BadBundle(BundleFault),
+    /// The configuration breaks the rule of this number, at this item.
+    BadConfig(u8, u32),
+    /// No product has the features that the configuration names.
+    NotValid,
+    /// The case breaks this rule.
+    BadCase(CaseFault),
     /// The file, counted from 0, is longer than its limit.
     TooLong(u8),
     /// The file, counted from 0, was not read.
@@ -27,6 +39,49 @@ pub enum Status {
     Unsupported,
 }
 
+impl From<NoMemory> for Status {
+    ghost from_gives = { λ _ status. status ≡ variant.NoMemory };
+
+    fn from(_: NoMemory) -> Status {
+        Status::NoMemory
+    }
+}
+
+impl From<ReadCaseStop> for Status {
+    ghost from_gives = { λ stop status. status ≡ status_of_case_stop stop };
+
+    fn from(stop: ReadCaseStop) -> Status {
+        match stop {
+            ReadCaseStop::Fault(fault) => Status::BadCase(fault),
+            ReadCaseStop::NoMemory => Status::NoMemory,
+        }
+    }
+}
+
+impl From<ConfigStop> for Status {
+    ghost from_gives = { λ stop status. status ≡ status_of_config_stop stop };
+
+    fn from(stop: ConfigStop) -> Status {
+        match stop {
+            ConfigStop::NotList => Status::BadConfig(2, 0),
+            ConfigStop::UnknownFeature(at) => Status::BadConfig(3, at),
+            ConfigStop::Repeated(at) => Status::BadConfig(4, at),
+            ConfigStop::NoMemory => Status::NoMemory,
+        }
+    }
+}
+
+impl From<CutStop> for Status {
+    ghost from_gives = { λ stop status. status ≡ status_of_cut_stop stop };
+
+    fn from(stop: CutStop) -> Status {
+        match stop {
+            CutStop::NotValid => Status::NotValid,
+            CutStop::NoMemory => Status::NoMemory,
+        }
+    }
+}
+
 impl Status {
     /// The exit status of a program that ends so.
     pub fn code(&self) -> u8
@@ -36,6 +91,9 @@ impl Status {
             Status::Done => 0,
             Status::BadWords => 2,
             Status::BadBundle(_) => 3,
+            Status::BadConfig(_, _) => 4,
+            Status::NotValid => 5,
+            Status::BadCase(_) => 6,
             Status::TooLong(_) => 12,
             Status::ReadFault(_) => 13,
             Status::WriteFault => 14,
@@ -52,7 +110,10 @@ impl Status {
         match self {
             Status::Done => Ok(String::new(alloc)),
             Status::BadWords => String::from_str(alloc, "plcase: bad words\n"),
-            Status::BadBundle(fault) => fault_line(alloc, fault),
+            Status::BadBundle(fault) => bundle_line(alloc, fault),
+            Status::BadConfig(rule, at) => config_line(alloc, *rule, *at),
+            Status::NotValid => String::from_str(alloc, "plcase: not valid\n"),
+            Status::BadCase(fault) => case_line(alloc, fault),
             Status::TooLong(file) => format!(in alloc; "plcase: file {file} too long\n"),
             Status::ReadFault(file) => format!(in alloc; "plcase: file {file} not read\n"),
             Status::WriteFault => String::from_str(alloc, "plcase: output not written\n"),
@@ -63,7 +124,7 @@ impl Status {
 }
 
 #[tactic(auto, unfolding(meaning::specs::Statuses::status_line))]
-fn fault_line(alloc: Global, fault: &BundleFault) -> Result<String, AllocError>
+fn bundle_line(alloc: Global, fault: &BundleFault) -> Result<String, AllocError>
     ensures { IfOk result (λ line. string_bytes line ≡ meaning.status_line (meaning.BadBundle (fault_of fault.now))) }
 {
     let rule = fault.rule;
@@ -72,4 +133,22 @@ fn fault_line(alloc: Global, fault: &BundleFault) -> Result<String, AllocError>
     let sub = fault.sub;
     let at = fault.at;
     format!(in alloc; "plcase: bundle rule B{rule} at {part} {item} {sub} {at}\n")
+}
+
+#[tactic(auto, unfolding(meaning::specs::Statuses::status_line))]
+fn config_line(alloc: Global, rule: u8, at: u32) -> Result<String, AllocError>
+    ensures { IfOk result (λ line. string_bytes line ≡ meaning.status_line (meaning.BadConfig rule at)) }
+{
+    format!(in alloc; "plcase: config rule K{rule} at {at}\n")
+}
+
+/// The line of a fault of a case, whose place inside an item is always 0.
+#[tactic(auto, unfolding(meaning::specs::Statuses::status_line))]
+fn case_line(alloc: Global, fault: &CaseFault) -> Result<String, AllocError>
+    ensures { IfOk result (λ line. string_bytes line ≡ meaning.status_line (meaning.BadCase (fault_view fault.now))) }
+{
+    let number = fault.fault;
+    let part = fault.part.word();
+    let item = fault.item;
+    format!(in alloc; "plcase: case fault F{number} at {part} {item} 0\n")
 }

@@ -3,20 +3,17 @@
 ghost use Rattle.std.specs.Prelude.{◌≡◌, ◌⊎◌, ◌≤◌, IfOk, IfErr, map, string_bytes, length, Some, None};
 ghost use Rattle.meaning.specs.Counts.{NoFewer};
 ghost use Rattle.meaning.specs.Answers.{Prints};
-ghost use Rattle.meaning.specs.Stages.{building_thin};
 ghost use Rattle.meaning.specs.Statuses.{status_line};
 ghost use Rattle.meaning.specs.TopCall.{Answered, Says, PlainPromise, Kept};
 ghost use Rattle.workbench.specs.StatusView.{status_view};
-ghost use Rattle.workbench.specs.Run.{outside_of, shelf_of, Stops, StopsFile, IsFileOf, AnswersBundle, Printed};
+ghost use Rattle.workbench.specs.DerivingStage.{deriving_cases};
+ghost use Rattle.workbench.specs.Run.{outside_of, shelf_of, Stops, Printed};
 
-use crate::building::build;
 use crate::status::Status;
+use crate::tasks::answer_task;
 use crate::words::read_words;
-use outside::{Failed, ReadStop, Shelf, Sink, read_whole, write_whole};
+use outside::{Failed, Shelf, Sink, write_whole};
 use std::alloc::Global;
-
-/// The most bytes of a bundle file.
-const BUNDLE_LIMIT: u64 = 16_777_216;
 
 /// Reads the words and the files that they name, answers on `out`, and says on `err` why there is no answer.
 ///
@@ -28,7 +25,7 @@ pub fn run<F: Shelf, O: Sink, E: Sink>(
     out: &mut O,
     err: &mut E,
 ) -> Status
-    ensures promise { PlainPromise building_thin (map string_bytes words.now)
+    ensures promise { PlainPromise deriving_cases (map string_bytes words.now)
         (outside_of (F.holds shelf.old) (F.faults shelf.old) (F.next shelf.old) (F.given shelf.old) (O.got out.old) (O.faults out.old) (E.got err.old) (E.faults err.old))
         (outside_of (F.holds shelf.new) (F.faults shelf.new) (F.next shelf.new) (F.given shelf.new) (O.got out.new) (O.faults out.new) (E.got err.new) (E.faults err.new))
         (status_view result) }
@@ -44,7 +41,7 @@ pub fn run<F: Shelf, O: Sink, E: Sink>(
 
 /// The whole answer, or the status that stands in its place, before anything is written.
 fn answer<F: Shelf>(alloc: Global, words: &[String], shelf: &mut F) -> Result<Vec<u8>, Status>
-    ensures answered { IfOk result (λ v. Answered building_thin (map string_bytes words.now)
+    ensures answered { IfOk result (λ v. Answered deriving_cases (map string_bytes words.now)
         (shelf_of (F.holds shelf.old) (F.faults shelf.old) (F.next shelf.old) (F.given shelf.old)) (Prints v.items)) }
     ensures stopped { IfErr result (Stops (map string_bytes words.now)
         (shelf_of (F.holds shelf.old) (F.faults shelf.old) (F.next shelf.old) (F.given shelf.old))
@@ -54,29 +51,8 @@ fn answer<F: Shelf>(alloc: Global, words: &[String], shelf: &mut F) -> Result<Ve
     ensures same_files { F.holds shelf.new ≡ F.holds shelf.old }
 {
     match read_words(words) {
-        Some(invocation) => match build_file(alloc, shelf, invocation.task.bundle()) {
-            Ok(bytes) => Ok(bytes),
-            Err(status) => Err(status),
-        },
+        Some(invocation) => answer_task(alloc, shelf, &invocation.task),
         None => Err(Status::BadWords),
-    }
-}
-
-/// The case of the bundle in a file.
-fn build_file<F: Shelf>(alloc: Global, shelf: &mut F, name: &str) -> Result<Vec<u8>, Status>
-    ensures built { IfOk result (λ v. IsFileOf (F.holds shelf.old name.now) (λ bytes. AnswersBundle name.now bytes (Prints v.items))) }
-    ensures stopped { IfErr result (StopsFile name.now
-        (shelf_of (F.holds shelf.old) (F.faults shelf.old) (F.next shelf.old) (F.given shelf.old))
-        (shelf_of (F.holds shelf.new) (F.faults shelf.new) (F.next shelf.new) (F.given shelf.new))) }
-    ensures no_fewer_faults { NoFewer (F.faults shelf.old) (F.faults shelf.new) }
-    ensures no_less_given { NoFewer (F.given shelf.old) (F.given shelf.new) }
-    ensures same_files { F.holds shelf.new ≡ F.holds shelf.old }
-{
-    match read_whole(alloc, shelf, name, BUNDLE_LIMIT) {
-        Ok(bytes) => build(alloc, name, &bytes),
-        Err(ReadStop::Failed) => Err(Status::ReadFault(0)),
-        Err(ReadStop::TooLong) => Err(Status::TooLong(0)),
-        Err(ReadStop::NoMemory) => Err(Status::NoMemory),
     }
 }
 

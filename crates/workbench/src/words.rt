@@ -1,25 +1,26 @@
 ghost use Rattle.std.specs.Prelude.{◌≡◌, map, string_bytes, option_map};
 ghost use Rattle.meaning.specs.Words as meaning;
-ghost use Rattle.workbench.specs.WordsView.{invocation_view, task_view};
-ghost use Rattle.workbench.specs.PlainWords.{plain_invocation, build_of};
 ghost use Rattle.meaning.specs.Words.{limit_of, number_of};
+ghost use Rattle.workbench.specs.WordsView.{invocation_view, task_view};
+ghost use Rattle.workbench.specs.PlainWords.{plain_invocation, plain_task_of_one, plain_task_of_two};
 
 /// A command with its arguments, which are names of files.
 #[derive(Clone, Copy, Debug, PartialEq, Eq)]
 pub enum Task<'a> {
     /// Writes the case of a bundle.
-    Build { bundle: &'a str },
-}
-
-impl<'a> Task<'a> {
-    /// The name of the bundle's file.
-    pub fn bundle(&self) -> &'a str
-        ensures { meaning.Build result.now ≡ task_view self.now }
-    {
-        match self {
-            Task::Build { bundle } => *bundle,
-        }
-    }
+    Build {
+        bundle: &'a str,
+    },
+    /// Writes the text of a case at a configuration.
+    Derive {
+        case: &'a str,
+        configuration: &'a str,
+    },
+    /// Writes the text of a bundle's own product at a configuration.
+    Product {
+        bundle: &'a str,
+        configuration: &'a str,
+    },
 }
 
 /// What the words of a command line ask for.
@@ -41,24 +42,57 @@ pub fn read_words(words: &[String]) -> Option<Invocation<'_>>
     ensures { option_map invocation_view result ≡ plain_invocation (map string_bytes words.now) }
 {
     match words.len() {
-        3 => build(&words[1], &words[2], Some(DEFAULT_NODE_LIMIT)),
-        5 => build(&words[1], &words[2], node_limit(&words[3], &words[4])),
+        3 => with_limit(task_of_one(&words[1], &words[2]), Some(DEFAULT_NODE_LIMIT)),
+        4 => with_limit(
+            task_of_two(&words[1], &words[2], &words[3]),
+            Some(DEFAULT_NODE_LIMIT),
+        ),
+        5 => with_limit(
+            task_of_one(&words[1], &words[2]),
+            node_limit(&words[3], &words[4]),
+        ),
+        6 => with_limit(
+            task_of_two(&words[1], &words[2], &words[3]),
+            node_limit(&words[4], &words[5]),
+        ),
         _ => None,
     }
 }
 
-/// `build` with its bundle, under a limit that the words give or leave out.
-fn build<'a>(command: &str, bundle: &'a str, limit: Option<u32>) -> Option<Invocation<'a>>
-    ensures { option_map invocation_view result ≡ build_of command.now bundle.now limit }
+/// The task under a limit, where the words give both.
+fn with_limit(task: Option<Task<'_>>, limit: Option<u32>) -> Option<Invocation<'_>>
+    ensures { option_map invocation_view result ≡ meaning.with_limit limit (option_map task_view task.entry) }
 {
-    if command != "build" {
-        return None;
-    }
     let node_limit = limit?;
-    Some(Invocation {
-        task: Task::Build { bundle },
-        node_limit,
-    })
+    let task = task?;
+    Some(Invocation { task, node_limit })
+}
+
+/// The command with one file.
+fn task_of_one<'a>(command: &str, file: &'a str) -> Option<Task<'a>>
+    ensures { option_map task_view result ≡ plain_task_of_one command.now file.now }
+{
+    match command {
+        "build" => Some(Task::Build { bundle: file }),
+        _ => None,
+    }
+}
+
+/// The command with two files.
+fn task_of_two<'a>(command: &str, file: &'a str, configuration: &'a str) -> Option<Task<'a>>
+    ensures { option_map task_view result ≡ plain_task_of_two command.now file.now configuration.now }
+{
+    match command {
+        "derive" => Some(Task::Derive {
+            case: file,
+            configuration,
+        }),
+        "product" => Some(Task::Product {
+            bundle: file,
+            configuration,
+        }),
+        _ => None,
+    }
 }
 
 /// The limit that the two last words give.

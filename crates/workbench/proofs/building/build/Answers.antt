@@ -1,10 +1,13 @@
-use Rattle.std.proofs.Common.{sym, ap, ◌∙◌, Err}
-use Rattle.workbench.proofs.BuildAnswers.{toml_is_not_built, no_document_is_faulty}
+use Rattle.doc_tree.specs.View.{document}
+use Rattle.meaning.specs.Answers.{Prints}
+use Rattle.workbench.proofs.Exits.{stops_with}
+use Rattle.workbench.proofs.BuildAnswers.{build_answered, build_refused}
 use Rattle.workbench.proofs.building.build.Goals as goal
 
-pub returns-then-is_toml-clause-refused : goal.returns-then-is_toml-clause-refused
-returns-then-is_toml-clause-refused c = toml_is_not_built c.args.name.now c.args.bytes.now (sym c.is_toml.ensures ∙ c.if-is_toml.true)
+pub returns-in_err-bundle-clause-refused : goal.returns-in_err-bundle-clause-refused
+returns-in_err-bundle-clause-refused c =
+    stops_with _ _ _ c.from_residual.ensures.1 (build_refused c.args.name.now c.args.bytes.now _ c.in_err-bundle.ensures.stopped)
 
-pub returns-in-Err-NotDocument-clause-refused : goal.returns-in-Err-NotDocument-clause-refused
-returns-in-Err-NotDocument-clause-refused c =
-    no_document_is_faulty c.args.name.now c.args.bytes.now (sym c.is_toml.ensures ∙ c.if-is_toml.false) (c.in-Err-NotDocument.ensures.not (ap Err c.in-Err-NotDocument.field-0-is))
+pub returns-clause-built : goal.returns-clause-built
+returns-clause-built c =
+    build_answered c.args.name.now c.args.bytes.now (document c.in_ok-bundle.bundle) (Prints c.in_ok-case.case.items) c.in_ok-bundle.ensures.good c.in_ok-case.ensures

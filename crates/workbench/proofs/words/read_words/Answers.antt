@@ -1,9 +1,9 @@
-use Rattle.workbench.proofs.CommandLines.{five_words}
+use Rattle.workbench.proofs.CommandLines.{six_words}
 use Rattle.workbench.proofs.words.read_words.Goals as goal
 
--- the command, its bundle and its limit are the second, third and the last two of five words
-pub returns-in-5 : goal.returns-in-5
-returns-in-5 c =
-    let line = five_words c.args.words.now c.index-words-1-in-5.result c.index-words-2-in-5.result c.index-words-3.result c.index-words-4.result
-    c.in-5.is c.index-words-1-in-5.is c.index-words-2-in-5.is c.index-words-3.is c.index-words-4.is in
+-- the command, its two files and its limit are the second to fourth and the last two of six words
+pub returns-in-6 : goal.returns-in-6
+returns-in-6 c =
+    let line = six_words c.args.words.now c.index-words-1-in-6.result c.index-words-2-in-6.result c.index-words-3-in-6.result c.index-words-4-in-6.result c.index-words-5.result
+    c.in-6.is c.index-words-1-in-6.is c.index-words-2-in-6.is c.index-words-3-in-6.is c.index-words-4-in-6.is c.index-words-5.is in
     cc
