@@ -1,0 +1,16 @@
+pub mod View
+pub mod Faults
+pub mod Parts
+pub mod Known
+pub mod Ancestry
+pub mod Links
+pub mod NewTexts
+pub mod Items
+pub mod Owners
+pub mod ModelFacts
+pub mod SystemPlaces
+pub mod Joined
+pub mod ExpressionCode
+pub mod StateRules
+pub mod TransitionRules
+pub mod SystemRules
