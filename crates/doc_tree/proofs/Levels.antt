@@ -3,7 +3,10 @@ use Rattle.std.proofs.Common.{◌≡◌, ℕ, ℤ, Bool, List, [], ◌∷◌, So
 use Rattle.serde_json.specs.declared.value.Value.{Value, Array, Object}
 use Rattle.serde_json.specs.View.{view, items_view, members_view}
 use Rattle.serde_json.proofs.Views.{view-Array, view-Object}
-use Rattle.meaning.specs.Documents.{Document, text, number, truth, list, table, other, Documents, Members, listed, entries, as_list, as_table, of_json, items_of_json, members_of_json}
+use Rattle.toml.specs.declared.value.Value as toml_value
+use Rattle.toml.specs.View as toml_view
+use Rattle.toml.proofs.Views as toml_views
+use Rattle.meaning.specs.Documents.{Document, text, number, truth, list, table, other, Documents, Members, listed, entries, as_list, as_table, of_json, items_of_json, members_of_json, of_toml, items_of_toml, members_of_toml}
 use Rattle.meaning.specs.Documents as meaning
 use Rattle.doc_tree.specs.declared.doc.Doc.{Doc, the_lemmas}
 use Rattle.doc_tree.specs.declared.doc.Doc.TheVariants as doc
@@ -79,3 +82,19 @@ pub document-object : (v : Value) (m : BTreeMap (String Global) Value) (es : Lis
     → members es ≡ entries (members_of_json (members_view m.entries)) → document (doc.Table es) ≡ of_json (view v)
 document-object v m es e is =
     document-Table-at _ es (members_of_json (members_view m.entries)) refl is ∙ sym (ap (λ x. of_json (view x)) e ∙ ap of_json (view-Object m))
+
+-- ---- a value of TOML
+
+pub document-toml_array : (v : toml_value.Value) (xs : Vec toml_value.Value Global) (items : List toml_value.Value) (docs : List Doc)
+    → v ≡ toml_value.Array xs → items ≡ xs.items
+    → documents docs ≡ listed (items_of_toml (toml_view.items_view items)) → document (doc.List docs) ≡ of_toml (toml_view.view v)
+document-toml_array v xs items docs e same is =
+    document-List-at _ docs (items_of_toml (toml_view.items_view items)) refl is
+    ∙ sym (ap (λ x. of_toml (toml_view.view x)) e ∙ ap of_toml (toml_views.view-Array xs)
+    ∙ ap (λ vs. list (items_of_toml (toml_view.items_view vs))) (sym same))
+
+pub document-toml_table : (v : toml_value.Value) (m : BTreeMap (String Global) toml_value.Value) (es : List (List ℕ × Doc)) → v ≡ toml_value.Table m
+    → members es ≡ entries (members_of_toml (toml_view.table_view m)) → document (doc.Table es) ≡ of_toml (toml_view.view v)
+document-toml_table v m es e is =
+    document-Table-at _ es (members_of_toml (toml_view.table_view m)) refl is
+    ∙ sym (ap (λ x. of_toml (toml_view.view x)) e ∙ ap of_toml (toml_views.view-Table m))

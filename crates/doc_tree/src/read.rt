@@ -13,8 +13,10 @@ use std::alloc::Global;
 /// Why bytes gave no document.
 #[derive(Clone, Copy, Debug, PartialEq, Eq)]
 pub enum DocStop {
-    /// The bytes are none: not UTF-8, no JSON (RFC 8259), a number past the range of a float, or
-    /// lists and tables that nest deeper than 127.
+    /// The bytes are none. In both forms: not UTF-8. As JSON: outside RFC 8259, a number past the
+    /// range of a float, or lists and tables that nest deeper than 127. As TOML: outside TOML 1.1,
+    /// as where a name is given twice, a whole number outside 64 bits, a name of more than 80
+    /// parts, or arrays and inline tables that nest deeper than 80.
     NotDocument,
     NoMemory,
 }
