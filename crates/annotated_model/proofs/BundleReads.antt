@@ -1,5 +1,5 @@
 -- What is read from the table of a model is read from its bundle.
-use Rattle.std.proofs.Common.{◌≡◌, refl, sym, ap, ◌∙◌, subst, ℕ, List, []}
+use Rattle.std.proofs.Common.{◌≡◌, sym, ap, ◌∙◌, subst, ℕ, List, []}
 use Rattle.std.specs.Prelude.{Result, Ok, Err, IfOk, IfErr}
 use Rattle.meaning.specs.Documents.{Document, table, no_members}
 use Rattle.meaning.specs.Models.{Model, model_from, model_of}

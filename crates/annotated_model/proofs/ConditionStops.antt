@@ -1,10 +1,10 @@
 -- The fault of the text of a condition is what the rules on it tell.
-use Rattle.std.proofs.Common.{◌≡◌, refl, sym, ap, ◌∙◌, subst, ℕ, ◌≤◌, List, [], ◌∷◌, ◌++◌, length, Bool, true, false, Some, arith}
-use Rattle.std.specs.Prelude.{◌&&◌, nat_le, min, unwrap_or, option_and_then}
+use Rattle.std.proofs.Common.{◌≡◌, ap, ◌∙◌, subst, ℕ, ◌≤◌, List, [], ◌∷◌, ◌++◌, length, Bool, true, false, Some, arith}
+use Rattle.std.specs.Prelude.{◌&&◌, nat_le, unwrap_or, option_and_then}
 use Rattle.std.proofs.lemmas.Bool.{leb-true}
 use Rattle.meaning.specs.Texts.{is_text}
 use Rattle.meaning.specs.Documents.{Document, text_at}
-use Rattle.meaning.specs.BundlePlaces.{Broken, broken_at, text_within, member_within, text_of_member}
+use Rattle.meaning.specs.BundlePlaces.{broken_at, member_within, text_of_member}
 use Rattle.meaning.specs.ExpressionFaults.{TextFault, Syntax, UnknownName, TooMany, place_in_text, expression_fault, place_of_form_fault, place_of_unknown_name}
 use Rattle.meaning.specs.LineRules.{expression_rules}
 use Rattle.cond_text.specs.Stops.{capped, Tells}

@@ -1,7 +1,7 @@
 -- The fault of a text stands at one of its bytes, or at its end.
-use Rattle.std.proofs.Common.{◌≡◌, refl, sym, ap, ◌∙◌, subst, ℕ, suc, ◌+◌, ◌≤◌, List, [], ◌∷◌, length, Bool, true, false, Option, Some, None, arith}
+use Rattle.std.proofs.Common.{◌≡◌, refl, ap, ◌∙◌, subst, ℕ, suc, ◌+◌, ◌≤◌, List, [], ◌∷◌, length, Bool, true, false, Option, Some, None, arith}
 use Rattle.std.specs.Prelude.{if◌then◌else◌, ◌==◌, nat_le}
-use Rattle.meaning.specs.Texts.{is_word_byte, begins_with_letter}
+use Rattle.meaning.specs.Texts.{is_word_byte}
 use Rattle.meaning.specs.Expressions.{Piece, run, blank, exclamation, ampersand, pipe, equals, less, greater, opening, closing, strange, sign_of, longer_run, pieces_of}
 use Rattle.meaning.specs.BundlePlaces.{or_else}
 use Rattle.meaning.specs.ExpressionFaults.{TextFault, TooMany, Syntax, UnknownName, place_in_text, Lexeme, negation, operator, left_paren, right_paren, stray, word_or_stray, placed_tokens, Next, an_operand, goes_on, next_after, is_known, may_end, fault_from, expression_fault}

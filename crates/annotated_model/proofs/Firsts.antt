@@ -1,9 +1,8 @@
 -- The first of the faults of a list, of two lists, and of the rules at a place.
-use Rattle.std.proofs.Common.{◌≡◌, refl, sym, ap, ◌∙◌, subst, ℕ, List, [], ◌∷◌, ◌++◌, Bool, true, false, Some}
+use Rattle.std.proofs.Common.{◌≡◌, refl, sym, ap, ◌∙◌, subst, ℕ, List, [], ◌∷◌, ◌++◌}
 use Rattle.meaning.specs.Texts.{first_of_list}
 use Rattle.meaning.specs.BundlePlaces.{Part, BundleFault, Broken, where_formed, faults_at, or_else}
 use Rattle.meaning.proofs.FirstFaults.{first_of_append}
-use Rattle.doc_tree.specs.Places.{fault_of}
 use Rattle.annotated_model.specs.declared.fault.ModelStop.{ModelStop}
 use Rattle.annotated_model.specs.declared.fault.ModelStop.TheVariants.{Fault, NoMemory}
 use Rattle.annotated_model.specs.Faults.{IsFirst}

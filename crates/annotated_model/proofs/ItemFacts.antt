@@ -1,13 +1,13 @@
 -- What follows for the items of a list that break no rule.
-use Rattle.std.proofs.Common.{◌≡◌, refl, sym, ap, ◌∙◌, subst, ℕ, suc, ◌+◌, ◌<◌, List, [], ◌∷◌, ◌++◌, length, map, Bool, true, false, Option, Some, None, arith}
-use Rattle.std.specs.Prelude.{codes, option_map, option_and_then, unwrap_or, is_some, not, ◌&&◌}
+use Rattle.std.proofs.Common.{◌≡◌, refl, sym, ap, ◌∙◌, subst, ℕ, ◌+◌, ◌<◌, List, [], ◌∷◌, ◌++◌, length, map, Bool, true, false, Option, Some, None}
+use Rattle.std.specs.Prelude.{codes, option_and_then, unwrap_or, is_some, not, ◌&&◌}
 use Rattle.std.specs.List.{AllByRecursion}
 use Rattle.meaning.specs.Texts.{place_of, is_name}
 use Rattle.meaning.specs.Documents.{Document, as_text, member_of, text_at}
 use Rattle.meaning.specs.Models.{TypeDef, number_in}
-use Rattle.meaning.specs.BundlePlaces.{Part, BundleFault, Broken, requires, faults_at, is_text_value, if_there, needs, name_in, is_among, text_of_member}
+use Rattle.meaning.specs.BundlePlaces.{Part, Broken, requires, faults_at, is_text_value, if_there, needs, name_in, is_among, text_of_member}
 use Rattle.meaning.specs.LineRules.{is_within, expression_rules}
-use Rattle.meaning.specs.ModelRules.{kind_has_form, element_has_form, element_texts_fit}
+use Rattle.meaning.specs.ModelRules.{kind_has_form, element_has_form}
 use Rattle.meaning.proofs.FirstFaults.{nothing_left}
 use Rattle.meaning.proofs.NameTexts.{place_among}
 use Rattle.annotated_model.specs.Items.{faults_after, named_form, texts_form, named_type, kind_broken, end_types_known, element_broken, element_form_broken, attributes_given}

@@ -1,15 +1,13 @@
 -- What the later parts know follows from the types, link kinds, labels and elements that were read without a fault.
-use Rattle.std.proofs.Common.{◌≡◌, refl, sym, ap, ◌∙◌, subst, ℕ, zero, suc, ◌+◌, ◌<◌, ◌≤◌, List, [], ◌∷◌, ◌++◌, length, map, Option, Some, None, arith}
-use Rattle.std.specs.Prelude.{codes, option_and_then, slice_get, is_some}
+use Rattle.std.proofs.Common.{◌≡◌, refl, sym, ap, ◌∙◌, subst, ℕ, zero, suc, ◌+◌, ◌<◌, List, [], ◌∷◌, ◌++◌, length, map, Option, Some, None, arith}
+use Rattle.std.specs.Prelude.{codes, option_and_then, is_some}
 use Rattle.std.specs.Bool.{⊤}
-use Rattle.std.specs.List.{All, AllByRecursion}
-use Rattle.std.proofs.lemmas.List.{length-map, length-append, append-nil}
-use Rattle.std.proofs.lemmas.List.Elements.{All-from_recursion}
+use Rattle.std.specs.List.{AllByRecursion}
+use Rattle.std.proofs.lemmas.List.{length-append}
 use Rattle.meaning.specs.Texts.{place_of}
-use Rattle.meaning.specs.Documents.{Document, list_at}
+use Rattle.meaning.specs.Documents.{Document}
 use Rattle.meaning.specs.Models as meaning
 use Rattle.meaning.specs.BundlePlaces.{Kinds, Elements, name_in, text_of_member}
-use Rattle.meaning.specs.ModelRules.{types_in}
 use Rattle.meaning.proofs.NameTexts.{place_among}
 use Rattle.meaning.proofs.StrategyRules.{some_place}
 use Rattle.annotated_model.specs.Items.{named_type, kind_broken, kinds_broken, element_broken, elements_broken, element_told, types_told}

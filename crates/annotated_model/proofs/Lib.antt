@@ -18,6 +18,7 @@ pub mod ModelLaws
 pub mod ProperProducts
 pub mod WholeReads
 pub mod BundleReads
+pub mod ConditionBounds
 pub mod SystemPlacesLaw
 pub mod ReadTogether
 pub mod StateLaws

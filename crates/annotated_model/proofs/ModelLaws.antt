@@ -1,13 +1,13 @@
 -- A bundle whose model breaks no rule has a model whose numbers are all in range.
 use Rattle.std.proofs.Common.{◌≡◌, refl, sym, ap, ◌∙◌, subst, ℕ, ◌<◌, List, [], ◌++◌, length, map, take, Bool, true, false, Some, arith}
 use Rattle.std.specs.Prelude.{codes, slice_get, not}
-use Rattle.std.specs.List.{All, AllByRecursion, enumerate_from}
+use Rattle.std.specs.List.{All, AllByRecursion}
 use Rattle.std.proofs.lemmas.List.{length-map}
 use Rattle.std.proofs.lemmas.Option.{slice_get-map}
-use Rattle.meaning.specs.Texts.{flat, numbered, first_of_list, place_of, is_name}
+use Rattle.meaning.specs.Texts.{numbered, first_of_list, place_of, is_name}
 use Rattle.meaning.specs.Documents.{Document, text_at, list_at}
 use Rattle.meaning.specs.Models.{TypeDef, Model, number_in, inherited, kind_of, element_of, link_of, system_from, model_from, model_of}
-use Rattle.meaning.specs.BundlePlaces.{Types, Kinds, Labels, Elements, Links, Systems, States, Transitions, requires, faults_at, may_have, is_list_value, name_in, is_among}
+use Rattle.meaning.specs.BundlePlaces.{Types, Kinds, Elements, Links, Systems, States, Transitions, requires, faults_at, may_have, is_list_value, name_in, is_among}
 use Rattle.meaning.specs.LineRules.{is_within, expression_rules}
 use Rattle.meaning.specs.ModelRules.{ModelContext, element_has_form, element_texts_fit, context_of, model_in, types_in, faults_in_item, kind_rules, element_rules, link_rules, state_rules, transition_rules, system_rules, faults_of_context, model_faults}
 use Rattle.meaning.proofs.FirstFaults.{nothing_first, nothing_left}
@@ -21,7 +21,7 @@ use Rattle.annotated_model.proofs.ItemFacts.{left_true, right_true, weaker, kind
 use Rattle.annotated_model.proofs.PartLaws.{kind_rules_are, element_rules_are}
 use Rattle.annotated_model.proofs.KnownLaws.{map_twice, parents_told}
 use Rattle.annotated_model.proofs.SystemPlacesLaw.{own_place, at_number, some_there}
-use Rattle.annotated_model.proofs.RulesKept.{no_faults_at, each_in_list, each_of_flat, unnumbered, number_within, link_known, system_known, both, all_values, SystemPasses, system_fits}
+use Rattle.annotated_model.proofs.RulesKept.{no_faults_at, each_in_list, each_of_flat, unnumbered, number_within, link_known, system_known, both, all_values, system_fits}
 
 module _ (features : List (List ℕ)) (model : Document) where
   abbrev c : ModelContext

@@ -1,5 +1,5 @@
 -- The faults of elements without their systems, over what was read, are those of the definitions.
-use Rattle.std.proofs.Common.{◌≡◌, refl, sym, ap, ◌∙◌, ℕ, ◌+◌, List, [], ◌∷◌, ◌++◌, map, Option, Some}
+use Rattle.std.proofs.Common.{◌≡◌, refl, ap, ◌∙◌, ℕ, ◌+◌, List, [], ◌∷◌, ◌++◌, map, Some}
 use Rattle.std.specs.Prelude.{codes, not, ◌||◌}
 use Rattle.std.specs.List.{enumerate_from}
 use Rattle.meaning.specs.Texts.{flat}

@@ -1,11 +1,11 @@
 -- The faults of a part, read over the names that the items before an item give, are those of the definitions.
-use Rattle.std.proofs.Common.{◌≡◌, refl, sym, ap, ◌∙◌, subst, ℕ, suc, ◌+◌, List, [], ◌∷◌, ◌++◌, length, map, take, append_assoc, length-append, arith}
+use Rattle.std.proofs.Common.{◌≡◌, refl, sym, ap, ◌∙◌, ℕ, ◌+◌, List, [], ◌∷◌, ◌++◌, length, map, take, append_assoc, length-append}
 use Rattle.std.specs.Prelude.{codes}
 use Rattle.std.specs.List.{enumerate_from}
 use Rattle.std.proofs.Math.Seq.{take-append_seam}
 use Rattle.meaning.specs.Texts.{flat}
 use Rattle.meaning.specs.Documents.{Document, list_at}
-use Rattle.meaning.specs.BundlePlaces.{Part, Kinds, Labels, Elements, BundleFault, Broken, faults_at, name_in}
+use Rattle.meaning.specs.BundlePlaces.{Part, Kinds, Labels, Elements, Broken, faults_at, name_in}
 use Rattle.meaning.specs.ModelRules.{ModelContext, context_of, types_in, label_text, kind_rules, label_rules, element_rules}
 use Rattle.annotated_model.specs.Items.{faults_after, part_faults, kind_broken, kinds_broken, label_broken, labels_broken, element_broken, elements_broken}
 use Rattle.annotated_model.specs.Parts.{type_names_in, kind_faults, label_faults, element_faults}

@@ -1,5 +1,5 @@
 -- Elements that are given the places of their systems, one after another.
-use Rattle.std.proofs.Common.{◌≡◌, refl, sym, ap, ◌∙◌, ℕ, zero, suc, ◌+◌, ◌<◌, List, [], ◌∷◌, length, map, take, set, get_or, Option, add-one, arith}
+use Rattle.std.proofs.Common.{◌≡◌, refl, ap, ◌∙◌, ℕ, zero, suc, ◌+◌, ◌<◌, List, [], ◌∷◌, length, map, take, set, get_or, Option, add-one, arith}
 use Rattle.meaning.specs.Models as meaning
 use Rattle.annotated_model.specs.declared.data.Element.{Element}
 use Rattle.annotated_model.specs.View.{element_view}

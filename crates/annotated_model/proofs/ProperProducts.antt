@@ -1,5 +1,5 @@
 -- In every product of a model whose numbers are in range, the systems are proper and the links join elements.
-use Rattle.std.proofs.Common.{◌≡◌, refl, sym, ap, ◌∙◌, subst, ℕ, zero, suc, ◌+◌, ◌<◌, ◌≤◌, List, [], ◌∷◌, length, map, Bool, true, false, cond, Some, arith}
+use Rattle.std.proofs.Common.{◌≡◌, refl, sym, ap, ◌∙◌, subst, ℕ, zero, suc, ◌+◌, ◌≤◌, List, [], ◌∷◌, map, Bool, true, false, cond, Some, arith}
 use Rattle.std.specs.Prelude.{◌==◌, ◌&&◌, filter, find, Contains}
 use Rattle.std.specs.List.{All, AllByRecursion, enumerate_from}
 use Rattle.std.proofs.lemmas.Bool.{eq-eqb}
@@ -7,8 +7,8 @@ use Rattle.std.proofs.lemmas.Bool.Decides.{nat_tests}
 use Rattle.std.proofs.lemmas.List.Elements.{All-from_recursion, recursion_from_All, All-contains}
 use Rattle.meaning.specs.Texts.{numbered}
 use Rattle.meaning.specs.Expressions.{truth}
-use Rattle.meaning.specs.Models.{Element, Link, Transition, System, Model, has_element, projection, model_at}
-use Rattle.meaning.specs.Queries.{element_numbers, LinksJoinElements}
+use Rattle.meaning.specs.Models.{Element, Link, System, Model, has_element, projection, model_at}
+use Rattle.meaning.specs.Queries.{LinksJoinElements}
 use Rattle.meaning.specs.Systems.{IsProperSystem}
 use Rattle.annotated_model.specs.ModelFacts.{TransitionFits, SystemFits, KeepsRules, HasProperProducts}
 use Rattle.annotated_model.proofs.ItemFacts.{weaker, left_true, right_true}

@@ -1,5 +1,5 @@
 -- What the readers of types, link kinds, labels and elements give together.
-use Rattle.std.proofs.Common.{◌≡◌, refl, sym, ap, ◌∙◌, subst, ℕ, ◌<◌, ◌≤◌, List, [], ◌++◌, length, map, Some, arith}
+use Rattle.std.proofs.Common.{◌≡◌, sym, ap, ◌∙◌, subst, ℕ, ◌<◌, ◌≤◌, List, [], ◌++◌, length, map, Some}
 use Rattle.std.specs.Prelude.{codes}
 use Rattle.std.specs.List.{All, AllByRecursion}
 use Rattle.std.proofs.lemmas.List.{length-map}
@@ -17,7 +17,7 @@ use Rattle.annotated_model.specs.declared.fault.ModelStop.{ModelStop}
 use Rattle.annotated_model.specs.declared.known.Known.{Known}
 use Rattle.annotated_model.specs.View.{type_view, kind_view, element_view}
 use Rattle.annotated_model.specs.Faults.{IsFirst}
-use Rattle.annotated_model.specs.Parts.{type_names_in, names_at, labels_in, kinds_in, elements_in, type_faults, kind_faults, label_faults, element_faults, known_faults}
+use Rattle.annotated_model.specs.Parts.{type_names_in, names_at, labels_in, type_faults, kind_faults, label_faults, element_faults, known_faults}
 use Rattle.annotated_model.specs.Items.{part_form, part_faults, types_broken, types_told, kinds_broken, labels_broken, elements_broken, named_type, element_told}
 use Rattle.annotated_model.specs.Known.{Knows, ParentsAreEarlier}
 use Rattle.annotated_model.proofs.Firsts.{same_first, first_in_front, first_behind}

@@ -1,22 +1,21 @@
 -- A model that breaks no rule keeps its numbers in range.
-use Rattle.std.proofs.Common.{◌≡◌, refl, sym, ap, ◌∙◌, subst, ℕ, ◌+◌, ◌<◌, List, [], ◌∷◌, ◌++◌, length, map, Bool, true, false, Some, arith}
+use Rattle.std.proofs.Common.{◌≡◌, refl, sym, ap, ◌∙◌, subst, ℕ, ◌+◌, ◌<◌, List, [], ◌∷◌, ◌++◌, length, map, Bool, true, false}
 use Rattle.std.specs.Prelude.{codes, unwrap_or, not, ◌&&◌, ◌||◌}
 use Rattle.std.specs.List.{All, AllByRecursion, enumerate_from, list_any, list_all}
 use Rattle.std.proofs.lemmas.List.{length-map}
 use Rattle.std.proofs.lemmas.List.Elements.{All-from_recursion}
 use Rattle.meaning.specs.Texts.{flat, numbered}
-use Rattle.meaning.specs.Documents.{Document, text_at, list_at, truth_at, texts_in}
-use Rattle.meaning.specs.Models.{LinkKind, Element, Link, State, Transition, System, Model, number_in, inherited, kind_of, element_of, link_of, state_of, transition_of, system_from, model_from}
-use Rattle.meaning.specs.BundlePlaces.{Part, Types, Kinds, Labels, Elements, Links, Systems, States, Transitions, BundleFault, Broken, requires, where_formed, faults_at, faults_of_items, may_have, is_list_value, name_in, is_among}
+use Rattle.meaning.specs.Documents.{Document, text_at, list_at}
+use Rattle.meaning.specs.Models.{Model, number_in, state_of, transition_of, system_from}
+use Rattle.meaning.specs.BundlePlaces.{Part, States, Transitions, BundleFault, Broken, requires, faults_at, faults_of_items, may_have, is_list_value, name_in, is_among}
 use Rattle.meaning.specs.LineRules.{expression_rules}
-use Rattle.meaning.specs.ModelRules.{ModelContext, context_of, types_in, faults_in_list, faults_in_item, kind_rules, element_rules, link_form, kind_and_ends_are_known, end_fits, link_rules, state_form, labels_of, state_rules, transition_form, ends_are_states, transition_rules, system_form, element_takes_system, states_have_form, has_initial_state, is_formed, is_new_name, system_elements, is_system_type, type_of_element, system_rules, faults_of_context}
+use Rattle.meaning.specs.ModelRules.{ModelContext, faults_in_list, faults_in_item, link_form, kind_and_ends_are_known, end_fits, link_rules, state_form, labels_of, state_rules, transition_form, ends_are_states, transition_rules, system_form, element_takes_system, states_have_form, has_initial_state, is_formed, system_rules}
 use Rattle.meaning.proofs.FirstFaults.{nothing_left}
 use Rattle.meaning.proofs.NameTexts.{place_among}
-use Rattle.annotated_model.specs.ModelFacts.{KindFits, ElementFits, LinkFits, TransitionFits, SystemFits, KeepsRules}
-use Rattle.annotated_model.specs.Parts.{type_names_in, names_at, labels_in}
+use Rattle.annotated_model.specs.ModelFacts.{TransitionFits, SystemFits}
+use Rattle.annotated_model.specs.Parts.{names_at}
 use Rattle.annotated_model.proofs.TypeLaws.{where_formed_none, requires_none}
-use Rattle.annotated_model.proofs.ItemFacts.{left_true, right_true, weaker, all_mapped, kind_ends, element_type}
-use Rattle.annotated_model.proofs.PartLaws.{kind_rules_are, element_rules_are}
+use Rattle.annotated_model.proofs.ItemFacts.{left_true, right_true, weaker, all_mapped}
 
 -- ---- lists without a fault
 

@@ -1,6 +1,6 @@
 -- The place of an element's name among the owners of systems is the place of its system.
 use Rattle.std.proofs.Common.{◌≡◌, refl, sym, ap, ◌∙◌, subst, ℕ, zero, suc, ◌+◌, List, [], ◌∷◌, map, take, Bool, true, false, Option, Some, None, arith}
-use Rattle.std.specs.Prelude.{option_map, option_and_then, slice_get, unwrap_or, bytes_eq, if◌then◌else◌, not, ◌||◌}
+use Rattle.std.specs.Prelude.{option_map, option_and_then, slice_get, unwrap_or, bytes_eq, if◌then◌else◌, ◌||◌}
 use Rattle.std.specs.List.{AllByRecursion, enumerate_from}
 use Rattle.std.proofs.lemmas.Option.{slice_get-map}
 use Rattle.std.proofs.lemmas.Slice.Eq.{bytes_eq-Decides}
@@ -9,8 +9,7 @@ use Rattle.meaning.specs.Models as meaning
 use Rattle.meaning.specs.BundlePlaces.{is_among}
 use Rattle.meaning.proofs.NameTexts.{place_among}
 use Rattle.annotated_model.specs.declared.data.Element.{Element}
-use Rattle.annotated_model.specs.View.{element_view}
-use Rattle.annotated_model.specs.SystemPlaces.{system_told, owner_at, TellSystems}
+use Rattle.annotated_model.specs.SystemPlaces.{owner_at, TellSystems}
 
 -- ---- names that are new are found at their own places
 

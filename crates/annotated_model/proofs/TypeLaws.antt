@@ -1,5 +1,5 @@
 -- The faults of types, each read after the types before it, and the types that are read so, are those of the definitions.
-use Rattle.std.proofs.Common.{◌≡◌, refl, sym, ap, ◌∙◌, subst, ℕ, zero, suc, ◌+◌, ◌-◌, List, [], ◌∷◌, ◌++◌, length, map, take, Bool, true, false, Option, Some, None, append_assoc, length-append, arith}
+use Rattle.std.proofs.Common.{◌≡◌, refl, sym, ap, ◌∙◌, ℕ, suc, ◌+◌, ◌-◌, List, [], ◌∷◌, ◌++◌, length, map, take, Bool, true, false, Option, Some, None, append_assoc, length-append, arith}
 use Rattle.std.specs.Prelude.{codes, option_map, option_and_then, slice_get, bytes_eq, if◌then◌else◌, not, ◌&&◌, ◌||◌, nat_le, unwrap_or}
 use Rattle.std.specs.List.{enumerate_from}
 use Rattle.std.proofs.Math.Seq.{take-append_seam}
@@ -8,13 +8,10 @@ use Rattle.std.proofs.lemmas.Option.{slice_get_past}
 use Rattle.meaning.specs.Texts.{flat, first_of_list, place_of}
 use Rattle.meaning.specs.Documents.{Document, list_at, truth_at}
 use Rattle.meaning.specs.Models.{TypeDef, inherited, inherits_system, type_of, types_after}
-use Rattle.meaning.specs.BundlePlaces.{Types, BundleFault, Broken, requires, where_formed, faults_at, if_some, name_in, is_among, are_new, text_of_member, or_else}
+use Rattle.meaning.specs.BundlePlaces.{Types, Broken, requires, where_formed, faults_at, if_some, name_in, is_among, are_new, text_of_member, or_else}
 use Rattle.meaning.specs.LineRules.{is_within}
 use Rattle.meaning.specs.ModelRules.{ModelContext, context_of, types_in, attributes_of, own_attributes, type_has_form, type_gives_names, type_rules}
-use Rattle.meaning.proofs.FirstFaults.{first_of_append, nothing_first, nothing_left}
-use Rattle.annotated_model.specs.declared.fault.ModelStop.{ModelStop}
-use Rattle.annotated_model.specs.declared.fault.ModelStop.TheVariants.{Fault, NoMemory}
-use Rattle.annotated_model.specs.Faults.{IsFirst}
+use Rattle.meaning.proofs.FirstFaults.{first_of_append, nothing_left}
 use Rattle.annotated_model.specs.Items.{named_form, named_type, type_broken, types_broken_after, types_broken, types_told, part_form, part_faults}
 use Rattle.annotated_model.specs.Parts.{type_names_in, names_at, type_faults}
 

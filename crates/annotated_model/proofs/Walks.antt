@@ -1,7 +1,5 @@
 -- How the items of a list are gone through, each read over the names that the items before it give.
-use Rattle.std.proofs.Common.{◌≡◌, refl, sym, ap, ◌∙◌, subst, ℕ, zero, suc, ◌+◌, ◌<◌, List, [], ◌∷◌, ◌++◌, length, map, take, drop, get_or, append_assoc, drop-cons, add-one, arith}
-use Rattle.std.specs.List.{enumerate_from}
-use Rattle.meaning.specs.Texts.{flat}
+use Rattle.std.proofs.Common.{◌≡◌, sym, ap, ◌∙◌, subst, ℕ, suc, ◌+◌, ◌<◌, List, [], ◌∷◌, ◌++◌, length, drop, get_or, drop-cons, add-one}
 use Rattle.meaning.specs.Documents.{Document}
 use Rattle.meaning.specs.BundlePlaces.{Part, BundleFault, Broken, faults_at}
 use Rattle.doc_tree.specs.declared.doc.Doc.{Doc}

@@ -1,5 +1,5 @@
 -- The parts of a model table together: the first fault of all, and the model that is joined of them.
-use Rattle.std.proofs.Common.{◌≡◌, refl, sym, ap, ◌∙◌, subst, ℕ, List, [], ◌++◌, map, append_assoc, Some}
+use Rattle.std.proofs.Common.{◌≡◌, sym, ap, ◌∙◌, subst, ℕ, List, [], ◌++◌, map, append_assoc, Some}
 use Rattle.std.specs.Prelude.{codes, slice_get, true}
 use Rattle.meaning.specs.Texts.{place_of}
 use Rattle.meaning.specs.Documents.{Document, list_at}

@@ -1,5 +1,5 @@
 -- The code of an expression, by which proofs tell the values apart that hold it: a tree of numbers that gives it back.
-use Rattle.std.specs.Prelude.{◌≡◌, ℕ, zero, suc, refl}
+use Rattle.std.specs.Prelude.{◌≡◌, zero, suc, refl}
 use Rattle.std.proofs.Common.{sym, ap, ap₂, ◌∙◌}
 use base.Stored.{Gv, gnil, gnum, gcons, Coded}
 use Rattle.meaning.specs.Expressions.{Expression, Top, Bottom, Name, Not, Both, Either, Implies, Same}

@@ -1,7 +1,7 @@
 -- For private clauses: the rules at an item, over what its reader has: the names that the earlier items give, and the item's number.
 use Rattle.std.specs.Prelude.{ℕ, ◌+◌, List, [], ◌∷◌, ◌++◌, map, length, Bool, not, ◌&&◌, nat_le, Option, Some, option_and_then, codes}
 use Rattle.meaning.specs.Texts.{is_name, place_of}
-use Rattle.meaning.specs.Documents.{Document, text_at, list_at, table_at, texts_in}
+use Rattle.meaning.specs.Documents.{Document, text_at, list_at, table_at}
 use Rattle.meaning.specs.Expressions.{Expression}
 use Rattle.meaning.specs.Models.{TypeDef, Element, number_in, condition_of, inherited, type_of}
 use Rattle.meaning.specs.BundlePlaces.{Part, Types, Kinds, Labels, Elements, BundleFault, Broken, requires, where_formed, faults_at, may_have, is_list_value, is_text_value, if_some, name_in, is_among, are_new, text_of_member}

@@ -1,7 +1,6 @@
 -- For private clauses: the parts that a model is joined from.
 use Rattle.std.specs.Prelude.{◌≡◌, ℕ, List, [], map, Some, slice_get, true}
 use Rattle.meaning.specs.Texts.{place_of}
-use Rattle.meaning.specs.Documents.{Document}
 use Rattle.meaning.specs.Models as meaning
 use Rattle.meaning.specs.BundlePlaces.{is_among}
 use Rattle.annotated_model.specs.declared.known.Known.{Known}

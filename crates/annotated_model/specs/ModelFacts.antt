@@ -1,7 +1,8 @@
 -- What always holds of a model that was read without a fault, and of its products.
-use Rattle.std.specs.Prelude.{◌≡◌, ℕ, ◌<◌, List, length, Bool, true, Some, Contains}
+use Rattle.std.specs.Prelude.{◌≡◌, ℕ, ◌<◌, ◌≤◌, List, length, Bool, true, Some, Contains}
 use Rattle.std.specs.List.{All, list_any}
-use Rattle.meaning.specs.Models.{LinkKind, Element, Link, State, Transition, System, Model, inherited, model_at, projection}
+use Rattle.meaning.specs.Expressions.{name_bound}
+use Rattle.meaning.specs.Models.{LinkKind, Element, Link, Transition, System, Model, inherited, model_at, projection}
 use Rattle.meaning.specs.Queries.{LinksJoinElements}
 use Rattle.meaning.specs.Systems.{IsProperSystem}
 use Rattle.annotated_model.specs.Known.{ParentsAreEarlier}
@@ -46,3 +47,9 @@ pub record KeepsRules (m : Model) : Type 0 where
 pub record HasProperProducts (m : Model) : Type 0 where
   pub systems : (w : List Bool) (s : System) → Contains m.systems s → IsProperSystem (projection w s)
   pub links : (w : List Bool) → LinksJoinElements (model_at m w)
+
+-- every condition speaks of features below this count
+pub record NamesFeatures (count : ℕ) (m : Model) : Type 0 where
+  pub elements : All (λ e. name_bound e.presence ≤ count) m.elements
+  pub links : All (λ l. name_bound l.presence ≤ count) m.links
+  pub transitions : All (λ s. All (λ t. name_bound t.presence ≤ count) s.transitions) m.systems

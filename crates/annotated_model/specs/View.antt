@@ -1,5 +1,5 @@
 -- What the data of this crate mean: the records of the definitions.
-use Rattle.std.specs.Prelude.{List, map}
+use Rattle.std.specs.Prelude.{map}
 use Rattle.meaning.specs.Models as meaning
 use Rattle.cond_text.specs.View.{expression}
 use Rattle.annotated_model.specs.declared.data.TypeDef.{TypeDef}

@@ -9,21 +9,25 @@ mod condition;
 mod data;
 mod elements;
 mod fault;
+#[cfg(test)]
+mod fault_tests;
 mod kinds;
 mod known;
 mod labels;
+#[cfg(test)]
+mod limit_tests;
 mod links;
 mod model;
 mod names;
 mod new_texts;
 mod owners;
 mod read;
+#[cfg(test)]
+mod read_tests;
+#[cfg(test)]
+mod sample_models;
 mod states;
-#[cfg(test)]
-mod system_tests;
 mod systems;
-#[cfg(test)]
-mod tests;
 mod texts;
 mod transitions;
 mod types;

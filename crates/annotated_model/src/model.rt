@@ -8,7 +8,6 @@ ghost use Rattle.meaning.specs.ModelRules.{model_in};
 ghost use Rattle.meaning.specs.Models as meaning;
 ghost use Rattle.doc_tree.specs.View.{document};
 ghost use Rattle.annotated_model.specs.View.{type_view, kind_view, element_view, link_view, system_view};
-ghost use Rattle.annotated_model.specs.Known.{ParentsAreEarlier};
 ghost use Rattle.annotated_model.specs.ModelFacts.{KindFits, ElementFits, LinkFits, SystemFits, KeepsRules};
 ghost use Rattle.annotated_model.specs.SystemPlaces.{TellSystems};
 ghost use Rattle.annotated_model.specs.Joined.{joined_view, nothing, CanJoin};
@@ -117,7 +116,7 @@ impl Model {
     /// The types.
     pub fn types(&self) -> &[TypeDef]
         ensures types { map type_view result.now ≡ self.now.types }
-        ensures parents { ParentsAreEarlier self.now.types }
+        ensures rules { KeepsRules self.now }
     {
         self.types.list()
     }

@@ -1,10 +1,11 @@
 //! Reading the model of a bundle.
 
-ghost use Rattle.std.specs.Prelude.{◌≡◌, [], IfOk, IfErr};
+ghost use Rattle.std.specs.Prelude.{◌≡◌, [], length, IfOk, IfErr};
 ghost use Rattle.meaning.specs.Models.{model_from, model_of};
 ghost use Rattle.meaning.specs.ModelRules.{context_of, faults_of_context, model_faults};
 ghost use Rattle.doc_tree.specs.View.{document};
 ghost use Rattle.annotated_model.specs.Faults.{IsFirst};
+ghost use Rattle.annotated_model.specs.ModelFacts.{NamesFeatures};
 
 use crate::fault::ModelStop;
 use crate::known::read_known;
@@ -35,6 +36,7 @@ impl Model {
     /// What is told of a model with a fault is the first one, part by part from the types to the owners of systems, and in each part item by item.
     pub fn read(alloc: Global, doc: &Doc, features: &Names) -> Result<Model, ModelStop>
         ensures ok { IfOk result (λ m. (m ≡ model_of features.now (document doc.now)) × (model_faults features.now (document doc.now) ≡ [])) }
+        ensures bounded { IfOk result (λ m. NamesFeatures (length features.now) m) }
         ensures fault { IfErr result (IsFirst (model_faults features.now (document doc.now))) }
     {
         match model_table(doc) {

@@ -1,9 +1,7 @@
-use Rattle.std.proofs.Common.{◌≡◌, map, take, drop}
+use Rattle.std.proofs.Common.{◌≡◌, map, drop}
 use Rattle.std.specs.List.{list_all}
 use Rattle.meaning.specs.BundlePlaces as places
-use Rattle.meaning.specs.ModelRules as rules
-use Rattle.doc_tree.specs.View.{document, documents, members}
-use Rattle.annotated_model.specs.Items.{values_told}
+use Rattle.doc_tree.specs.View.{members}
 use Rattle.annotated_model.proofs.attributes.are_known.Given as goal
 
 abbrev pub invariant-values : goal.invariant-values

@@ -1,4 +1,4 @@
-use Rattle.std.proofs.Common.{◌≡◌, ◌≤◌, [], map, take, drop}
+use Rattle.std.proofs.Common.{◌≡◌, ◌≤◌, map, take, drop}
 use Rattle.meaning.specs.BundlePlaces.{Elements, name_in}
 use Rattle.doc_tree.specs.View.{documents}
 use Rattle.annotated_model.specs.View.{type_view, element_view}

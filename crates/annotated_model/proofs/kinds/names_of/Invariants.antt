@@ -1,4 +1,4 @@
-use Rattle.std.proofs.Common.{◌≡◌, ◌≤◌, [], map, take, drop, length}
+use Rattle.std.proofs.Common.{◌≡◌, ◌≤◌, map, take, drop}
 use Rattle.meaning.specs.BundlePlaces.{Kinds, name_in}
 use Rattle.doc_tree.specs.View.{documents}
 use Rattle.annotated_model.specs.Items.{faults_after, kind_broken, kinds_broken}

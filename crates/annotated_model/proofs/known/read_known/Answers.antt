@@ -1,9 +1,9 @@
-use Rattle.std.proofs.Common.{[], subst, map, sym}
+use Rattle.std.proofs.Common.{[], subst, map}
 use Rattle.std.proofs.lemmas.Result.{err_from_is_err_and}
 use Rattle.meaning.specs.BundlePlaces.{Elements}
 use Rattle.std.specs.Prelude.{codes}
 use Rattle.doc_tree.specs.View.{document}
-use Rattle.annotated_model.specs.View.{type_view, element_view}
+use Rattle.annotated_model.specs.View.{type_view}
 use Rattle.annotated_model.specs.Faults.{IsFirst}
 use Rattle.annotated_model.specs.Items.{part_faults, elements_broken}
 use Rattle.annotated_model.proofs.ReadTogether.{TypesRead, KindsRead, LabelsRead, ElementsRead, at_types, at_kinds, at_labels, at_elements, no_known_faults, knows}

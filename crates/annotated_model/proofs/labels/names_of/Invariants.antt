@@ -1,4 +1,4 @@
-use Rattle.std.proofs.Common.{◌≡◌, ◌≤◌, [], take, drop}
+use Rattle.std.proofs.Common.{◌≡◌, ◌≤◌, take, drop}
 use Rattle.meaning.specs.Documents.{texts_in}
 use Rattle.meaning.specs.BundlePlaces.{Labels}
 use Rattle.meaning.specs.ModelRules.{label_text}

@@ -1,4 +1,4 @@
-use Rattle.std.proofs.Common.{◌∙◌, ap, sym, ◌<◌, length, arith}
+use Rattle.std.proofs.Common.{◌∙◌, ap, ◌<◌, length, arith}
 use Rattle.meaning.specs.Texts.{place_of}
 use Rattle.annotated_model.proofs.PlacedSystems.{same_views, placed_next}
 use Rattle.annotated_model.proofs.owners.place_systems.Goals as goal

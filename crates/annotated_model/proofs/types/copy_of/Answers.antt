@@ -1,4 +1,4 @@
-use Rattle.std.proofs.Common.{◌≡◌, ap, ◌∙◌, false, take, arith}
+use Rattle.std.proofs.Common.{ap, ◌∙◌, arith}
 use Rattle.std.proofs.lemmas.Grind.{common_steps}
 use Rattle.meaning.specs.BundlePlaces.{is_among}
 use Rattle.annotated_model.proofs.Lists.{take_at, not_before}

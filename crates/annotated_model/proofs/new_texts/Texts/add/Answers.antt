@@ -1,4 +1,4 @@
-use Rattle.std.proofs.Common.{◌≡◌, true, false, sym, ap, ap₂, ◌∙◌, ◌++◌, ◌∷◌, [], map, subst}
+use Rattle.std.proofs.Common.{◌≡◌, false, sym, ap, ap₂, ◌∙◌, ◌++◌, ◌∷◌, [], map}
 use Rattle.std.specs.Prelude.{not, string_bytes}
 use Rattle.meaning.specs.BundlePlaces.{is_among}
 use Rattle.annotated_model.proofs.NewTexts.{among_keys, added, not_true}
