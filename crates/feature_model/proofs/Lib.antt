@@ -1,2 +1,16 @@
 pub mod Places
 pub mod NamedWorlds
+pub mod ChildLists
+pub mod FeatureLists
+pub mod Lines
+pub mod ValidWorlds
+pub mod ConditionTruth
+pub mod ConditionSizes
+pub mod ConditionNames
+pub mod ItemFaults
+pub mod FeatureReading
+pub mod RuleReading
+pub mod FaultPlaces
+pub mod HeldExpressions
+pub mod LineReading
+pub mod LineSizes

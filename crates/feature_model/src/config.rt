@@ -79,7 +79,7 @@ fn are_texts(items: &[Doc]) -> bool
 }
 
 /// The text that a value is, and an empty one where it is none.
-fn text_of(item: &Doc) -> &str
+pub fn text_of(item: &Doc) -> &str
     ensures { result.now ≡ unwrap_or (meaning.as_text (document item.now)) [] }
 {
     item.as_text().unwrap_or("")

@@ -1,19 +1,26 @@
 //! What the contracts do not show: that the calls answer with memory at hand, and that the definitions mean what is wanted.
 
-use crate::{ConfigStop, read_config};
-use cond_text::{NameStop, Names};
+mod configs;
+mod faults;
+mod limits;
+mod products;
+
+use crate::{Line, LineRule};
+use cond_text::truth;
 use doc_tree::{Doc, from_json};
 use std::alloc::Global;
 use std::test::Fail;
 
-/// The names R, A and B.
-fn three_names(alloc: Global) -> Result<Names, NameStop> {
-    let mut names = Names::new(alloc);
-    names.add("R")?;
-    names.add("A")?;
-    names.add("B")?;
-    Ok(names)
-}
+/// The smallest line.
+const ALONE: &str = r#"{"line":{"features":[{"name":"R"}]}}"#;
+
+/// A line of two alternatives.
+const ALTERNATIVES: &str =
+    r#"{"line":{"features":[{"name":"R"},{"name":"A","parent":"R","kind":"alternative"},{"name":"B","parent":"R","kind":"alternative"}]}}"#;
+
+/// A line of tram doors: two kinds of doors, and sensors, a ramp, an interlock and the driver's panel.
+const TRAM: &str =
+    r#"{"line":{"features":[{"name":"Tram"},{"name":"Doors","parent":"Tram","kind":"mandatory"},{"name":"Sliding","parent":"Doors","kind":"alternative"},{"name":"Folding","parent":"Doors","kind":"alternative"},{"name":"Sensors","parent":"Tram"},{"name":"EdgeSensor","parent":"Sensors","kind":"or"},{"name":"LightCurtain","parent":"Sensors","kind":"or"},{"name":"Ramp","parent":"Tram"},{"name":"Interlock","parent":"Tram"},{"name":"DriverPanel","parent":"Tram","kind":"mandatory"},{"name":"Remote","parent":"DriverPanel"},{"name":"Night","parent":"Tram"}],"rules":[{"requires":["Ramp","Interlock"]},{"excludes":["Folding","LightCurtain"]},{"holds":"Remote => Sensors"}]}}"#;
 
 fn document(alloc: Global, text: &str) -> Result<Doc, Fail> {
     match from_json(alloc, text.as_bytes()) {
@@ -22,64 +29,25 @@ fn document(alloc: Global, text: &str) -> Result<Doc, Fail> {
     }
 }
 
-/// Why a document is no configuration of the names, and `None` where it is one.
-fn stop_of(alloc: Global, doc: &Doc, names: &Names) -> Option<ConfigStop> {
-    match read_config(alloc, doc, names) {
-        Ok(_) => None,
-        Err(stop) => Some(stop),
+fn line(alloc: Global, text: &str) -> Result<Line, Fail> {
+    let doc = document(alloc, text)?;
+    match Line::read(alloc, &doc) {
+        Ok(line) => Ok(line),
+        Err(_) => Err(Fail::from("no line")),
     }
 }
 
-#[test]
-fn a_configuration_names_the_true_features(rt: HostRuntime) -> Result<(), Fail> {
-    let names = three_names(rt.alloc())?;
-    let cases = [
-        ("{\"features\":[]}", [false, false, false]),
-        ("{\"features\":[\"R\"]}", [true, false, false]),
-        ("{\"features\":[\"B\",\"R\"]}", [true, false, true]),
-        (
-            "{\"features\":[\"A\",\"B\",\"R\"],\"more\":1}",
-            [true, true, true],
-        ),
-    ];
-    for (text, want) in cases {
-        let doc = document(rt.alloc(), text)?;
-        let Ok(world) = read_config(rt.alloc(), &doc, &names) else {
-            return Err(Fail::from("no configuration"));
-        };
-        assert_eq!(rt; world.list(), want.as_slice(), "{text}");
+/// Whether a world is a product of the line, and else the first rule that it breaks. The line's condition is to say the same.
+fn told(alloc: Global, line: &Line, world: &[bool]) -> Result<Result<(), LineRule>, Fail> {
+    if world.len() != usize::from(line.count()) {
+        return Err(Fail::from("not a world of the line"));
     }
-    Ok(())
-}
-
-#[test]
-fn a_configuration_is_refused_at_its_first_bad_name(rt: HostRuntime) -> Result<(), Fail> {
-    let names = three_names(rt.alloc())?;
-    let cases = [
-        ("7", ConfigStop::NotList),
-        ("[\"R\"]", ConfigStop::NotList),
-        ("{}", ConfigStop::NotList),
-        ("{\"features\":\"R\"}", ConfigStop::NotList),
-        ("{\"features\":{\"R\":true}}", ConfigStop::NotList),
-        ("{\"features\":[\"X\",\"R\",\"R\",1]}", ConfigStop::NotList),
-        ("{\"features\":[\"\"]}", ConfigStop::UnknownFeature(0)),
-        (
-            "{\"features\":[\"R\",\"r\"]}",
-            ConfigStop::UnknownFeature(1),
-        ),
-        (
-            "{\"features\":[\"R\",\"X\",\"R\"]}",
-            ConfigStop::UnknownFeature(1),
-        ),
-        (
-            "{\"features\":[\"R\",\"A\",\"R\",\"X\"]}",
-            ConfigStop::Repeated(2),
-        ),
-        ("{\"features\":[\"A\",\"A\"]}", ConfigStop::Repeated(1)),
-    ];
-    for (text, want) in cases {
-        let doc = document(rt.alloc(), text)?;
-        assert_eq!(rt; stop_of(rt.alloc(), &doc, &names), Some(want), "{text}");
+    let Ok(condition) = line.expr(alloc) else {
+        return Err(Fail::from("no memory"));
+    };
+    let told = line.valid(world);
+    if truth(&condition, world) != told.is_ok() {
+        return Err(Fail::from("the condition says otherwise"));
     }
-    Ok(())
+    Ok(told)
 }
