@@ -1,6 +1,6 @@
 -- What a reader that found no fault, or the first one, tells of the document that it read.
-use Rattle.std.proofs.Common.{◌≡◌, refl, sym, ap, subst, ◌∙◌, ℕ, ◌≤◌, List, [], ◌++◌, map, length}
-use Rattle.std.specs.Prelude.{Bool, true, false, Option, Some, None, is_some, is_none, codes, if◌then◌else◌}
+use Rattle.std.proofs.Common.{◌≡◌, refl, sym, ap, ◌∙◌, ℕ, ◌≤◌, List, [], ◌++◌, map, length}
+use Rattle.std.specs.Prelude.{true, false, Option, Some, None, is_some, is_none, codes, if◌then◌else◌}
 use Rattle.meaning.specs.Texts.{first_of_list}
 use Rattle.meaning.specs.BundlePlaces.{Features, Systems}
 use Rattle.meaning.specs.Documents.{Document, Json, document_of, as_table, list_at, text_at, natural_at, texts_in}

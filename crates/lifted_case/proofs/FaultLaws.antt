@@ -7,14 +7,14 @@ use Rattle.std.proofs.lemmas.List.{length-map}
 use Rattle.std.proofs.lemmas.List.Folds.{list_all-map, list_all-append}
 use Rattle.std.proofs.lemmas.Option.{slice_get-map}
 use Rattle.meaning.specs.Texts.{is_text}
-use Rattle.meaning.specs.Documents.{Document, as_text, as_list, as_natural, member_of, text_at, list_at, natural_at, truth_at, texts_in}
-use Rattle.meaning.specs.BundlePlaces.{Document', Features, Systems, Nodes, Valid, Table, Relations}
+use Rattle.meaning.specs.Documents.{Document, as_text, as_list, as_natural, member_of, text_at, list_at, natural_at, truth_at}
+use Rattle.meaning.specs.BundlePlaces.{Document', Systems, Nodes, Valid, Table, Relations}
 use Rattle.meaning.specs.Cases.{NodeKind, argues, is_solution}
-use Rattle.meaning.specs.CaseFiles.{CaseCheck, Never, NoDeadlock, NoAnswer, SomeAnswer, CaseSystem, CaseDocument, Finding, CasePart}
+use Rattle.meaning.specs.CaseFiles.{CaseCheck, Never, NoDeadlock, NoAnswer, SomeAnswer, CaseDocument}
 use Rattle.meaning.specs.CaseReading as reading
 use Rattle.meaning.specs.CaseReading.{faults_at, failing, unless, past, past_in_all, first_alone, case_document_of}
 use Rattle.conditions.specs.TableRows.{bad_rows}
-use Rattle.lifted_case.specs.ReadFaults.{plain_text, text_or_none, witness_texts, system_texts, finding_texts, node_texts, name_faults_in, text_faults_in, id_below, finding_ids_below, node_ids_below, system_ids_below, id_faults_of, id_faults_in, ends_below, end_faults_in, joins_states, lists_fit, system_faults_in, size_at, states_at, targets_fit, witnesses_alone, finding_members_fit, finding_of_kind_fits, kind_at, node_members_fit, finding_faults_in, systems_past, limit_faults_in, version_faults_in, table_faults_in, faults_in}
+use Rattle.lifted_case.specs.ReadFaults.{witness_texts, system_texts, finding_texts, node_texts, name_faults_in, text_faults_in, id_below, finding_ids_below, node_ids_below, system_ids_below, id_faults_of, id_faults_in, ends_below, end_faults_in, lists_fit, system_faults_in, size_at, states_at, targets_fit, finding_members_fit, finding_of_kind_fits, kind_at, node_members_fit, finding_faults_in, limit_faults_in, version_faults_in, table_faults_in, faults_in}
 
 -- ---- lists
 

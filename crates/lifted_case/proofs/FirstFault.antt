@@ -1,6 +1,6 @@
 -- The first fault of lists of faults that stand behind one another.
-use Rattle.std.proofs.Common.{◌≡◌, refl, subst, sym, ◌∙◌, ap, List, [], ◌∷◌, ◌++◌}
-use Rattle.std.specs.Prelude.{Option, Some, None}
+use Rattle.std.proofs.Common.{◌≡◌, List, [], ◌∷◌, ◌++◌}
+use Rattle.std.specs.Prelude.{Some}
 use Rattle.meaning.specs.Texts.{first_of_list}
 use Rattle.meaning.specs.CaseReading.{CaseFault}
 use Rattle.lifted_case.specs.declared.stop.ReadCaseStop.{ReadCaseStop}

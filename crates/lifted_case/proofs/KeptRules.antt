@@ -1,5 +1,5 @@
 -- A case that was read from a document without faults keeps the rules of cases.
-use Rattle.std.proofs.Common.{◌≡◌, refl, sym, ap, subst, ◌∙◌, ℕ, ◌+◌, ◌<◌, ◌≤◌, List, [], ◌∷◌, ◌++◌, map, length, get_or, arith}
+use Rattle.std.proofs.Common.{◌≡◌, refl, sym, subst, ◌∙◌, ℕ, ◌+◌, ◌<◌, ◌≤◌, List, [], ◌∷◌, ◌++◌, map, length, get_or, arith}
 use Rattle.std.specs.Prelude.{Bool, true, false, not, ◌&&◌, ◌==◌, cond, nat_lt, if◌then◌else◌, filter, Option, Some, None, option_map}
 use Rattle.std.specs.List.{All, list_all, enumerate_from}
 use Rattle.std.proofs.lemmas.Bool.Decides.{nat_tests}
@@ -8,15 +8,14 @@ use Rattle.std.proofs.lemmas.List.Folds.{list_all-append}
 use Rattle.std.proofs.lemmas.List.Elements.{All-nil, All-cons}
 use Rattle.meaning.specs.BundlePlaces.{Part, Features, Systems, Nodes, Valid, Relations}
 use Rattle.meaning.specs.CaseFiles.{CaseNode, CaseRelation, CaseSystem, CaseDocument}
-use Rattle.meaning.specs.CaseReading.{CaseFault, faults_at, failing, unless, past, past_in_all, first_alone, is_id, finding_ids, id_faults, end_faults, system_fits, limit_faults}
+use Rattle.meaning.specs.CaseReading.{faults_at, failing, unless, past, past_in_all, first_alone, is_id, finding_ids, id_faults, end_faults, system_fits, limit_faults}
 use Rattle.lifted_case.specs.declared.lifted.LNode.{LNode}
-use Rattle.lifted_case.specs.declared.lifted.LRel.{LRel}
 use Rattle.lifted_case.specs.declared.lifted.LSystem.{LSystem}
 use Rattle.lifted_case.specs.declared.lifted.LFinding.{LFinding}
 use Rattle.lifted_case.specs.declared.lifted.ReadCase.{ReadCase}
 use Rattle.conditions.specs.Tables.{case_row}
 use Rattle.lifted_case.specs.CaseView.{case_document_of_read, case_node_of, case_relation_of, case_system_of, finding_of}
-use Rattle.lifted_case.specs.CaseRules.{IsId, FindingFits, MayFit, NodeFits, RelationFits, SystemFits, KeepsCaseRules}
+use Rattle.lifted_case.specs.CaseRules.{IsId, MayFit, NodeFits, KeepsCaseRules}
 
 -- ---- lists of faults that are empty
 

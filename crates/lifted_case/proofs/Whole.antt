@@ -4,22 +4,12 @@ use Rattle.meaning.specs.Cases.{newline}
 use Rattle.meaning.specs.CaseFiles.{CaseDocument}
 use Rattle.meaning.specs.CaseBytes.{case_bytes, case_data}
 use Rattle.meaning.specs.Documents.{Document, Json, document_of, of_json}
-use Rattle.meaning.specs.ThinCases.{met_after}
 use Rattle.doc_tree.specs.Order.{has_no_other, is_in_order, nesting, most_nesting}
 use Rattle.doc_tree.specs.Written.{data_of, json_text}
 use Rattle.doc_tree.proofs.Texts.{json_text-data}
-use Rattle.lifted_case.specs.declared.thin.ThinCase.{ThinCase}
-use Rattle.lifted_case.specs.View.{conditions, document_over, case_document}
 use Rattle.lifted_case.specs.Written.{IsWritten}
 use Rattle.lifted_case.proofs.Plain.{data_of-of_json, has_no_other-of_json}
 use Rattle.lifted_case.proofs.CaseShape.{case_in_order, case_nests}
-use Rattle.lifted_case.proofs.Writing.{IsWritten-as}
-
-pub IsWritten-case : (c : ThinCase) (met : List ℕ) (d : Document) → met ≡ met_after [] (conditions c) → IsWritten d (case_data (document_over met c))
-    → IsWritten d (case_data (case_document c))
-unfolding case_document
-IsWritten-case c met d e h =
-    IsWritten-as d (case_data (document_over met c)) (case_data (document_over (met_after [] (conditions c)) c)) (ap (λ m. case_data (document_over m c)) e) h
 
 module _ (k : CaseDocument) (d : Document) (h : IsWritten d (case_data k)) where
   pub has_no_other-case : has_no_other d ≡ true

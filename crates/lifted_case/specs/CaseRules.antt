@@ -1,5 +1,5 @@
 -- What always holds of a case that was read.
-use Rattle.std.specs.Prelude.{◌≡◌, ℕ, ◌+◌, ◌<◌, ◌≤◌, ⊤, List, length, Option, Some, None}
+use Rattle.std.specs.Prelude.{◌≡◌, ℕ, ◌+◌, ◌<◌, ◌≤◌, ⊤, length, Option, Some, None}
 use Rattle.std.specs.List.{All}
 use Rattle.lifted_case.specs.declared.lifted.LNode.{LNode}
 use Rattle.lifted_case.specs.declared.lifted.LRel.{LRel}

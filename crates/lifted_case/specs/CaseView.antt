@@ -1,5 +1,5 @@
 -- What a case that was read means: the case document of the definitions.
-use Rattle.std.specs.Prelude.{ℕ, List, map, option_map}
+use Rattle.std.specs.Prelude.{ℕ, map, option_map}
 use Rattle.doc_tree.specs.Places.{part_of}
 use Rattle.gsn.specs.View.{kind_of, relation_kind_of}
 use Rattle.meaning.specs.CaseFiles.{CasePart, words, count, CaseCheck, Never, NoDeadlock, NoAnswer, SomeAnswer, Finding, CaseNode, CaseRelation, CaseSystem, CaseDocument}

@@ -1,6 +1,10 @@
-pub mod View
-pub mod Conditions
 pub mod Written
 pub mod CaseView
 pub mod CaseRules
 pub mod ReadFaults
+pub mod CaseWritten
+pub mod CaseContents
+pub mod CaseIds
+pub mod CaseMembers
+pub mod CaseMaps
+pub mod CaseExamples

@@ -1,12 +1,12 @@
 -- What a stop tells of the faults of a document.
-use Rattle.std.specs.Prelude.{◌≡◌, ℕ, ◌+◌, List, [], ◌∷◌, ◌++◌, Bool, not, ◌&&◌, ◌||◌, if◌then◌else◌, Option, Some, None, option_and_then, unwrap_or, codes, bytes_eq, length, map, is_some, is_none, nat_lt, nat_le, ◌==◌, true}
+use Rattle.std.specs.Prelude.{◌≡◌, ℕ, ◌+◌, List, [], ◌∷◌, ◌++◌, Bool, not, ◌&&◌, ◌||◌, if◌then◌else◌, Option, Some, None, option_and_then, unwrap_or, codes, bytes_eq, length, map, is_some, is_none, nat_lt, ◌==◌}
 use Rattle.std.specs.List.{list_any, list_all, slice_get}
 use Rattle.meaning.specs.Texts.{first_of_list, is_name, is_text}
 use Rattle.meaning.specs.Documents.{Document, as_text, as_list, member_of, text_at, list_at, natural_at, truth_at, texts_in, as_natural}
 use Rattle.meaning.specs.BundlePlaces.{Document', Features, Systems, Nodes, Valid, Table, Relations}
 use Rattle.meaning.specs.Cases.{NodeKind, Goal, argues, is_solution}
 use Rattle.meaning.specs.CaseFiles.{CaseCheck, Never, NoDeadlock, NoAnswer, SomeAnswer}
-use Rattle.meaning.specs.CaseReading.{CaseFault, CaseReading, Broken, faults_at, failing, unless, bad_names, absent_or, nth, part_of, part_is_text, transition_of, target_of, witness_of, finding_of, kind_named, relation_named, check_word_known, is_strategy, word_faults, form_faults, past, past_in_all, first_alone}
+use Rattle.meaning.specs.CaseReading.{CaseFault, CaseReading, Broken, faults_at, failing, unless, bad_names, absent_or, nth, part_of, part_is_text, transition_of, target_of, witness_of, finding_of, kind_named, is_strategy, word_faults, form_faults, past, past_in_all, first_alone}
 use Rattle.conditions.specs.TableRows.{bad_rows}
 use Rattle.lifted_case.specs.declared.stop.ReadCaseStop.{ReadCaseStop}
 use Rattle.lifted_case.specs.declared.stop.ReadCaseStop.TheVariants.{Fault, NoMemory}

@@ -1,9 +1,7 @@
 -- Values of JSON that are read back as they were written.
 use Rattle.std.specs.Prelude.{◌≡◌, ◌^◌, ℕ, List, [], ◌∷◌, map, ℤ, pos, negsuc, Bool, true, false, ◌&&◌, nat_lt, ⊤}
 use Rattle.serde_json.specs.Data.{Num, unsigned, negative, float, Data, null, boolean, number, string, array, object, Items, no_items, item, Members, no_members, member}
-use Rattle.meaning.specs.CaseFiles.{CasePart, words, count}
-use Rattle.meaning.specs.CaseBytes.{items_of, part_data}
-use Rattle.meaning.specs.Templates.{in_front}
+use Rattle.meaning.specs.CaseBytes.{items_of}
 use Rattle.meaning.specs.Documents.{Document, of_json}
 
 abbrev pub is_below_zero : ℤ → Bool
@@ -51,13 +49,3 @@ MembersWritten [] [] = ⊤
 MembersWritten [] (m ∷ ms) = ⊥
 MembersWritten (e ∷ es) [] = ⊥
 MembersWritten (e ∷ es) (m ∷ ms) = (e.0 ≡ m.0) × (IsWritten e.1 m.1 × MembersWritten es ms)
-
--- ---- for private clauses: the pieces of a text
-
-abbrev pub part_documents : List CasePart → List Document
-part_documents ps = map of_json (map part_data ps)
-
--- a piece before others that are joined
-abbrev pub with_part : CasePart → List CasePart → List CasePart
-with_part (words s) ps = in_front s ps
-with_part count ps = count ∷ ps

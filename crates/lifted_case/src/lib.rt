@@ -1,9 +1,11 @@
 //! Case files: the documents that hold one assurance case for all products of a line.
 //!
-//! `write_thin` gives the bytes of the case of a thin bundle, whose conditions are the root of the
-//! line alone or the root and one feature. They are the bytes that the definitions of `meaning`
-//! give to the case document that contracts see in a [`ThinCase`], `case_document` of
-//! `specs/View.antt`, and they read back as its document.
+//! [`write_case`] gives the bytes of a case over diagrams, or says that they are more than a case file
+//! may have. They are the bytes that the definitions of `meaning` give to a document that is written
+//! from the case (`IsWrittenFrom` of `specs/CaseWritten.antt`): with an identifier in place of each
+//! condition, the same one for the same function, and a table whose rows stand in the order of a
+//! walk. They read back as that document, which the case's contents and the truth of its conditions
+//! determine: `determined` of `proofs/CaseDetermined.antt`.
 //!
 //! [`read_case`] gives the case that bytes are, whoever wrote them, or the first of the rules of
 //! case files that they break, with its place. Both are what `read_case` of the definitions says of
@@ -19,28 +21,27 @@
 //! contracts.
 #![tactic(auto)]
 
-mod condition_ids;
+mod case_bytes;
+mod case_findings;
+mod case_ids;
+mod case_members;
+mod case_nodes;
+mod case_systems;
+#[cfg(test)]
+mod case_tests;
+mod case_walk;
 mod faults;
 mod lifted;
 mod members;
-mod nodes;
-mod parts;
 mod read;
 #[cfg(test)]
 mod read_tests;
-mod relations;
-mod rows;
 mod stop;
 mod tables;
-mod thin;
 mod values;
 mod words;
-mod write;
-#[cfg(test)]
-mod write_tests;
 
+pub use case_bytes::{CaseStop, write_case};
 pub use lifted::{CaseFault, LCheck, LFinding, LNode, LPart, LRel, LSystem, Lifted, ReadCase};
 pub use read::read_case;
 pub use stop::ReadCaseStop;
-pub use thin::{ThinCase, ThinNode, ThinPart, ThinRel};
-pub use write::write_thin;

@@ -1,4 +1,4 @@
-use Rattle.std.proofs.Common.{◌≡◌, refl, sym, ap, subst, ◌∙◌}
+use Rattle.std.proofs.Common.{◌≡◌, sym, ap, subst, ◌∙◌}
 use Rattle.std.specs.Prelude.{Some, None, Err, IfOk, IfErr}
 use Rattle.meaning.specs.CaseReading as reading
 use Rattle.meaning.specs.CaseReading.{Is, Broken}

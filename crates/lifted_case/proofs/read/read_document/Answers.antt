@@ -1,9 +1,6 @@
-use Rattle.std.proofs.Common.{sym, subst, ◌∙◌, rules}
-use Rattle.std.specs.Prelude.{IfErr, Err}
-use Rattle.meaning.specs.CaseReading as reading
+use Rattle.std.proofs.Common.{sym, ◌∙◌, rules}
 use Rattle.doc_tree.specs.View.{document}
 use Rattle.lifted_case.specs.CaseView.{case_document_of_read}
-use Rattle.lifted_case.specs.ReadFaults.{TellsReading}
 use Rattle.lifted_case.proofs.CasesRead.{reads_as, breaks_at}
 use Rattle.lifted_case.proofs.read.read_document.Goals as goal
 

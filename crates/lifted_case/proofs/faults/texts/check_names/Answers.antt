@@ -1,6 +1,5 @@
-use Rattle.std.proofs.Common.{◌≡◌, [], ap, ◌∙◌}
-use Rattle.std.specs.Prelude.{codes, Option}
-use Rattle.meaning.specs.Texts.{first_of_list}
+use Rattle.std.proofs.Common.{[], ap, ◌∙◌}
+use Rattle.std.specs.Prelude.{codes}
 use Rattle.meaning.specs.Documents.{texts_in, list_at}
 use Rattle.meaning.specs.CaseReading.{bad_names}
 use Rattle.doc_tree.specs.View.{document}

@@ -1,4 +1,4 @@
-use Rattle.std.proofs.Common.{◌≡◌, take, map}
+use Rattle.std.proofs.Common.{◌≡◌, take}
 use Rattle.meaning.specs.Documents.{texts_in}
 use Rattle.doc_tree.specs.View.{documents}
 use Rattle.lifted_case.proofs.values.lists.words.Given as goal

@@ -1,4 +1,4 @@
-use Rattle.std.proofs.Common.{◌≡◌, ap, sym, ◌∙◌, map}
+use Rattle.std.proofs.Common.{ap, sym, ◌∙◌}
 use Rattle.std.specs.Prelude.{not, bytes_eq, string_bytes}
 use Rattle.std.specs.List.{list_any}
 use Rattle.lifted_case.proofs.SeenNames.{any_mapped}

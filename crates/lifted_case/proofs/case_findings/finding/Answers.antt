@@ -1,0 +1,5 @@
+use Rattle.lifted_case.proofs.CaseMembers.{AddsMembers-all}
+use Rattle.lifted_case.proofs.case_findings.finding.Goals as goal
+
+pub returns : goal.returns
+returns c = c.table.ensures _ (AddsMembers-all c.new-entries.ensures.items c.in_ok-put_finding.ensures)

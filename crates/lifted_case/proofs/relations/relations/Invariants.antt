@@ -1,9 +1,0 @@
-use Rattle.std.proofs.Common.{map, take}
-use Rattle.meaning.specs.CaseBytes.{relation_data}
-use Rattle.doc_tree.specs.View.{documents}
-use Rattle.lifted_case.specs.View.{relation_of}
-use Rattle.lifted_case.specs.Written.{AreWritten}
-use Rattle.lifted_case.proofs.relations.relations.Given as goal
-
-abbrev pub invariant-relations : goal.invariant-relations
-invariant-relations l = AreWritten (documents l.docs.items) (map relation_data (map (relation_of l.conditions.met.items) (take l.one-index l.all)))
