@@ -1,6 +1,7 @@
-//! The program: it makes the real shelf and the real sinks, runs, and ends with the number of the status.
+//! The program: it makes the real shelf, the real sinks and shut diagrams, runs, and ends with the number of the status.
 #![tactic(auto)]
 
+use conditions::Diagrams;
 use outside::{FileShelf, StreamSink};
 use std::process::ExitCode;
 use std::{env, io};
@@ -24,7 +25,15 @@ fn main(rt: HostRuntime) -> ExitCode {
         Ok(words) => words,
         Err(_) => Vec::new(rt.alloc()),
     };
-    let status = run(rt.alloc(), &words, &mut shelf, &mut out, &mut err);
+    let mut diagrams = Diagrams::shut();
+    let status = run(
+        rt.alloc(),
+        &words,
+        &mut shelf,
+        &mut out,
+        &mut err,
+        &mut diagrams,
+    );
     ExitCode::from(status.code())
 }
 

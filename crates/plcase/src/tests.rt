@@ -16,7 +16,15 @@ fn built<W: io::Write + Drop>(
     let mut shelf = FileShelf::new(rt);
     let mut out = StreamSink::new(out);
     let mut err = MemSink::new(rt.alloc(), 1_000, 100, Vec::new(rt.alloc()))?;
-    let status = run(rt.alloc(), &words, &mut shelf, &mut out, &mut err);
+    let mut diagrams = Diagrams::shut();
+    let status = run(
+        rt.alloc(),
+        &words,
+        &mut shelf,
+        &mut out,
+        &mut err,
+        &mut diagrams,
+    );
     Ok((status.code(), err.bytes().to_vec(rt.alloc())?))
 }
 

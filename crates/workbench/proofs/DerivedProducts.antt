@@ -2,14 +2,14 @@
 use Rattle.std.proofs.Common.{◌≡◌, refl, sym, ap, ◌∙◌, subst, ℕ, List, [], ◌∷◌, Bool, true, false}
 use Rattle.meaning.specs.Documents.{Document}
 use Rattle.meaning.specs.Features.{feature_names, is_valid}
-use Rattle.meaning.specs.CaseReading.{CaseFault, CaseReading, Is, read_case}
+use Rattle.meaning.specs.CaseReading.{CaseReading, Is, read_case}
 use Rattle.meaning.specs.Configurations.{Configuration, Refused, World}
 use Rattle.meaning.specs.Derivation.{Bundle}
 use Rattle.meaning.specs.Words.{Build, Derive, Product}
 use Rattle.meaning.specs.Stages.{fault_of_case}
 use Rattle.meaning.specs.Answers.{Answer, Prints, BundleReading, Faulty, NotBuilt, Good, AfterBundle, AfterConfiguration, AfterValid, IsBuilt, IsBuildAnswer, no_world, too_many_entries, too_many_bytes, built, ShowsCase, IsAnswer, bundle_in, is_unread, configured, product_answer}
 use Rattle.meaning.proofs.AnswerLaws.{derive_is_product}
-use Rattle.workbench.specs.DerivingStage.{deriving_cases}
+use Rattle.workbench.specs.BuildingStage.{building_cases}
 
 -- ---- a product has one answer
 
@@ -18,54 +18,54 @@ valid_once true x a p e f = e ∙ sym f
 valid_once false x a p e f = e ∙ sym f
 
 configured_once : (unread : Bool) (c : Configuration) (b : Bundle) (a p : Answer)
-    → AfterConfiguration unread c a (λ w. AfterValid (is_valid b.line w) a (a ≡ product_answer deriving_cases b w))
-    → AfterConfiguration unread c p (λ w. AfterValid (is_valid b.line w) p (p ≡ product_answer deriving_cases b w)) → a ≡ p
+    → AfterConfiguration unread c a (λ w. AfterValid (is_valid b.line w) a (a ≡ product_answer building_cases b w))
+    → AfterConfiguration unread c p (λ w. AfterValid (is_valid b.line w) p (p ≡ product_answer building_cases b w)) → a ≡ p
 configured_once true c b a p e f = e ∙ sym f
 configured_once false (Refused fault) b a p e f = e ∙ sym f
-configured_once false (World w) b a p e f = valid_once (is_valid b.line w) (product_answer deriving_cases b w) a p e f
+configured_once false (World w) b a p e f = valid_once (is_valid b.line w) (product_answer building_cases b w) a p e f
 
-module _ (bundle bytes name chosen : List ℕ) (d : Document) (b : Bundle) (good : bundle_in deriving_cases bundle bytes ≡ Good d b) where
+module _ (bundle bytes name chosen : List ℕ) (d : Document) (b : Bundle) (good : bundle_in building_cases bundle bytes ≡ Good d b) where
   abbrev after_bundle : BundleReading → Answer → Type 0
   after_bundle r a = AfterBundle r a (λ d' b'.
-      AfterConfiguration (is_unread deriving_cases name) (configured (feature_names b'.line) name chosen) a (λ w.
-      AfterValid (is_valid b'.line w) a (a ≡ product_answer deriving_cases b' w)))
+      AfterConfiguration (is_unread building_cases name) (configured (feature_names b'.line) name chosen) a (λ w.
+      AfterValid (is_valid b'.line w) a (a ≡ product_answer building_cases b' w)))
 
-  good_answer : (a : Answer) → IsAnswer deriving_cases (Product bundle name) (bytes ∷ chosen ∷ []) a → after_bundle (Good d b) a
+  good_answer : (a : Answer) → IsAnswer building_cases (Product bundle name) (bytes ∷ chosen ∷ []) a → after_bundle (Good d b) a
   unfolding IsAnswer
   good_answer a h = subst (λ r. after_bundle r a) good h
 
-  one_answer : (a p : Answer) → IsAnswer deriving_cases (Product bundle name) (bytes ∷ chosen ∷ []) a
-      → IsAnswer deriving_cases (Product bundle name) (bytes ∷ chosen ∷ []) p → a ≡ p
+  one_answer : (a p : Answer) → IsAnswer building_cases (Product bundle name) (bytes ∷ chosen ∷ []) a
+      → IsAnswer building_cases (Product bundle name) (bytes ∷ chosen ∷ []) p → a ≡ p
   one_answer a p h i =
-      configured_once (is_unread deriving_cases name) (configured (feature_names b.line) name chosen) b a p (good_answer a h) (good_answer p i)
+      configured_once (is_unread building_cases name) (configured (feature_names b.line) name chosen) b a p (good_answer a h) (good_answer p i)
 
 -- ---- a case that was built
 
-is_built : (b : Bundle) (a : Answer) (case : List ℕ) → IsBuildAnswer deriving_cases b ShowsCase a → a ≡ Prints case → IsBuilt deriving_cases b case
+is_built : (b : Bundle) (a : Answer) (case : List ℕ) → IsBuildAnswer building_cases b ShowsCase a → a ≡ Prints case → IsBuilt building_cases b case
 is_built b a case (no_world n) e = absurd (let x = e in cc)
 is_built b a case (too_many_entries c v m) e = absurd (let x = e in cc)
 is_built b a case (too_many_bytes bytes c v f i m) e = absurd (let x = e in cc)
 is_built b a case (built {printed = printed} bytes i shows) e =
-    let same : case ≡ bytes = cc (e, shows) in subst (λ x. IsBuilt deriving_cases b x) (sym same) i
+    let same : case ≡ bytes = cc (e, shows) in subst (λ x. IsBuilt building_cases b x) (sym same) i
 
 no_faults : (case : List ℕ) (r : CaseReading) → read_case case ≡ r → fault_of_case r ≡ [] → fault_of_case (read_case case) ≡ []
 no_faults case r e f = ap fault_of_case e ∙ f
 
 module _ (bundle bytes case name chosen : List ℕ) (a p : Answer) where
-  of_reading : (r : BundleReading) (built_case : List ℕ) → bundle_in deriving_cases bundle bytes ≡ r
-      → AfterBundle r (Prints built_case) (λ d b. IsBuildAnswer deriving_cases b ShowsCase (Prints built_case))
-      → IsAnswer deriving_cases (Derive case name) (built_case ∷ chosen ∷ []) a
-      → IsAnswer deriving_cases (Product bundle name) (bytes ∷ chosen ∷ []) p → a ≡ p
+  of_reading : (r : BundleReading) (built_case : List ℕ) → bundle_in building_cases bundle bytes ≡ r
+      → AfterBundle r (Prints built_case) (λ d b. IsBuildAnswer building_cases b ShowsCase (Prints built_case))
+      → IsAnswer building_cases (Derive case name) (built_case ∷ chosen ∷ []) a
+      → IsAnswer building_cases (Product bundle name) (bytes ∷ chosen ∷ []) p → a ≡ p
   of_reading (Faulty fs) built_case good h i j = absurd (let x = h.2 in cc)
   of_reading NotBuilt built_case good h i j = absurd (let x = h in cc)
   of_reading (Good d b) built_case good h i j =
       let is = is_built b (Prints built_case) built_case h refl in
       one_answer bundle bytes name chosen d b good a p
-      (derive_is_product deriving_cases bundle bytes case built_case name chosen d b a refl good is
+      (derive_is_product building_cases bundle bytes case built_case name chosen d b a refl good is
       (no_faults built_case (Is is.build.document) is.build.reads refl) i) j
 
-  pub derive_agrees_with_product : (built_case : List ℕ) → IsAnswer deriving_cases (Build bundle) (bytes ∷ []) (Prints built_case)
-      → IsAnswer deriving_cases (Derive case name) (built_case ∷ chosen ∷ []) a
-      → IsAnswer deriving_cases (Product bundle name) (bytes ∷ chosen ∷ []) p → a ≡ p
+  pub derive_agrees_with_product : (built_case : List ℕ) → IsAnswer building_cases (Build bundle) (bytes ∷ []) (Prints built_case)
+      → IsAnswer building_cases (Derive case name) (built_case ∷ chosen ∷ []) a
+      → IsAnswer building_cases (Product bundle name) (bytes ∷ chosen ∷ []) p → a ≡ p
   unfolding IsAnswer
-  derive_agrees_with_product built_case h i j = of_reading (bundle_in deriving_cases bundle bytes) built_case refl h i j
+  derive_agrees_with_product built_case h i j = of_reading (bundle_in building_cases bundle bytes) built_case refl h i j

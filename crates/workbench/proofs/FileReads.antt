@@ -1,6 +1,6 @@
 -- Why the files of a task were not all read, from why one of them was not.
 use Rattle.std.proofs.Common.{◌≡◌, refl, sym, ap, subst, ℕ, zero, suc, ◌≤◌, ◌<◌, List, [], ◌∷◌, length, inl, inr, arith}
-use Rattle.std.specs.Prelude.{◌⊎◌, ◌+◌, Option, Some, None, unwrap_or}
+use Rattle.std.specs.Prelude.{◌⊎◌, ◌+◌, Some, unwrap_or}
 use Rattle.std.specs.List.{slice_get}
 use Rattle.meaning.specs.Counts.{Rose, RoseBy, NoFewer, greatest_count}
 use Rattle.meaning.specs.Words.{File}
@@ -41,6 +41,8 @@ module _ (f : File) (fs : List File) where
   first_stops before after (status.BadConfig rule at) h = absurd h
   first_stops before after status.NotValid h = absurd h
   first_stops before after (status.BadCase fault) h = absurd h
+  first_stops before after (status.NodeLimit used) h = absurd h
+  first_stops before after (status.BigCase entries) h = absurd h
   first_stops before after (status.TooLong k) h = record {
     file = f;
     is_file = is_first k h.0;
@@ -80,6 +82,8 @@ module _ (f g : File) (before middle : Outside) (bytes : List ℕ) (read : IsFil
   second_stops after (status.BadConfig rule at) h = absurd h
   second_stops after status.NotValid h = absurd h
   second_stops after (status.BadCase fault) h = absurd h
+  second_stops after (status.NodeLimit used) h = absurd h
+  second_stops after (status.BigCase entries) h = absurd h
   second_stops after (status.TooLong k) h = record {
     file = g;
     is_file = is_second k h.0;

@@ -17,3 +17,9 @@ pub mod ThinPieces
 pub mod ThinGoals
 pub mod ThinCaseLemmas
 pub mod ThinStrategies
+pub mod ThinConditions
+pub mod TableRules
+pub mod ThinLifted
+pub mod ThinWritten
+pub mod ThinNames
+pub mod OneGoal

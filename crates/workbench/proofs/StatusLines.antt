@@ -5,7 +5,7 @@ use Rattle.std.proofs.lemmas.Fmt.{decimal_digit}
 use Rattle.std.specs.Prelude.{codes, decimal}
 use Rattle.meaning.specs.BundlePlaces.{BundleFault, part_word}
 use Rattle.meaning.specs.CaseReading.{CaseFault}
-use Rattle.meaning.specs.Statuses.{status_line, TooLong, ReadFault, BadBundle, BadConfig, BadCase}
+use Rattle.meaning.specs.Statuses.{status_line, NodeLimit, TooLong, ReadFault, BadBundle, BadConfig, BadCase}
 
 pub too_long_line : (k : ℕ) → codes "plcase: file " ++ (decimal k ++ codes " too long\n") ≡ status_line (TooLong k)
 unfolding status_line
@@ -14,6 +14,10 @@ too_long_line k = ap (λ s. codes "plcase: file " ++ s) (sym (append_assoc (deci
 pub not_read_line : (k : ℕ) → codes "plcase: file " ++ (decimal k ++ codes " not read\n") ≡ status_line (ReadFault k)
 unfolding status_line
 not_read_line k = ap (λ s. codes "plcase: file " ++ s) (sym (append_assoc (decimal k) (codes " not read") (10 ∷ [])))
+
+pub node_limit_line : (used : ℕ) → codes "plcase: node limit " ++ (decimal used ++ codes " reached\n") ≡ status_line (NodeLimit used)
+unfolding status_line
+node_limit_line used = ap (λ s. codes "plcase: node limit " ++ s) (sym (append_assoc (decimal used) (codes " reached") (10 ∷ [])))
 
 -- ten parts, joined from the right or from the left
 joined : (p q r t u v w x n : List ℕ)

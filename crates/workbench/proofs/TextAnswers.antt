@@ -11,12 +11,12 @@ use Rattle.meaning.specs.CaseFiles.{CaseDocument, holds, cut}
 use Rattle.meaning.specs.CaseReading.{CaseFault, CaseReading, Is, Broken, read_case}
 use Rattle.meaning.specs.Configurations.{Configuration, Refused, World, ConfigurationFault}
 use Rattle.meaning.specs.Derivation.{bundle_of, derived_at, direct_at, if_valid}
-use Rattle.meaning.specs.Words.{Derive, Product}
+use Rattle.meaning.specs.Words.{Product}
 use Rattle.meaning.specs.Statuses.{BadBundle, BadCase, BadConfig, NotValid, Unsupported, of_configuration}
 use Rattle.meaning.specs.StrategyTests.{thin_bundle_passes, thin_bundle}
 use Rattle.meaning.specs.Stages.{fault_of_case}
 use Rattle.meaning.specs.ThinTests.{features_pass, root_passes, other_passes, items_pass}
-use Rattle.meaning.specs.ThinCases.{thin_case, thin_case_of, thin_names, bundle}
+use Rattle.meaning.specs.ThinCases.{thin_case, thin_names}
 use Rattle.meaning.specs.Answers.{Answer, Prints, refusal, BundleReading, Faulty, NotBuilt, Good, AfterBundle, AfterCase, AfterConfiguration, AfterValid, IsAnswer, bundle_in, is_unread, configured, of_derivation, product_answer}
 use Rattle.meaning.proofs.EmptyLists.{both_true}
 use Rattle.meaning.proofs.ItemRules.{items_have_new_names}
@@ -33,15 +33,15 @@ use Rattle.workbench.proofs.NewNames.{are_new_is}
 use Rattle.workbench.proofs.ThinCuts.{own_features}
 use Rattle.doc_tree.specs.Places.{fault_of}
 use Rattle.lifted_case.specs.CaseView.{fault_view}
-use Rattle.lifted_case.specs.View.{case_document}
-use Rattle.lifted_case.specs.declared.thin.ThinCase.{ThinCase}
+use Rattle.workbench.specs.ThinView.{case_document}
+use Rattle.workbench.specs.declared.thin_data.ThinCase.{ThinCase}
 use Rattle.lifted_case.specs.declared.lifted.ReadCase.{ReadCase}
 use Rattle.lifted_case.specs.declared.lifted.CaseFault as code
 use Rattle.workbench.specs.declared.status.Status.{Status}
 use Rattle.workbench.specs.declared.status.Status.TheVariants as status
 use Rattle.lifted_case.specs.declared.stop.ReadCaseStop.{ReadCaseStop}
 use Rattle.lifted_case.specs.declared.stop.ReadCaseStop.TheVariants as case_stop
-use Rattle.workbench.specs.DerivingStage.{deriving_cases}
+use Rattle.workbench.specs.BuildingStage.{building_cases}
 use Rattle.workbench.specs.Run.{Refuses}
 use Rattle.workbench.specs.Stopped.{status_of_case_stop}
 use Rattle.workbench.specs.Readings.{IsGoodBundle, StopsBundle, IsWorldOf, StopsConfiguration, AnswersDerive, AnswersProduct}
@@ -56,6 +56,8 @@ refuses_by P Q f (status.BadBundle fault) h = f _ h
 refuses_by P Q f (status.BadConfig rule at) h = f _ h
 refuses_by P Q f status.NotValid h = f _ h
 refuses_by P Q f (status.BadCase fault) h = f _ h
+refuses_by P Q f (status.NodeLimit used) h = absurd h
+refuses_by P Q f (status.BigCase entries) h = f _ h
 refuses_by P Q f (status.TooLong k) h = absurd h
 refuses_by P Q f (status.ReadFault k) h = absurd h
 refuses_by P Q f status.WriteFault h = absurd h
@@ -88,6 +90,8 @@ module _ (next : Answer → List Bool → Type 0) where
   config_refuses unread c (status.BadConfig rule at) h = bad_config unread c rule at h.0 h.1.0 h.1.1 h.1.2
   config_refuses unread c status.NotValid h = absurd h
   config_refuses unread c (status.BadCase fault) h = absurd h
+  config_refuses unread c (status.NodeLimit used) h = absurd h
+  config_refuses unread c (status.BigCase entries) h = absurd h
   config_refuses unread c (status.TooLong k) h = absurd h
   config_refuses unread c (status.ReadFault k) h = absurd h
   config_refuses unread c status.WriteFault h = absurd h
@@ -113,7 +117,7 @@ module _ (bytes name chosen : List ℕ) where
   derives_at k a w = a ≡ of_derivation (derived_at k w)
 
   abbrev after_case : CaseReading → Answer → Type 0
-  after_case r a = AfterCase (fault_of_case r) r a (λ k. Configured (derives_at k) (is_unread deriving_cases name) (configured k.features name chosen) a)
+  after_case r a = AfterCase (fault_of_case r) r a (λ k. Configured (derives_at k) (is_unread building_cases name) (configured k.features name chosen) a)
 
   derives_from : (r : CaseReading) (a : Answer) → read_case bytes ≡ r → after_case r a → AnswersDerive bytes name chosen a
   unfolding IsAnswer
@@ -129,26 +133,26 @@ module _ (bytes name chosen : List ℕ) where
   case_refuses r case_stop.NoMemory e h = tt
 
   pub derive_answered : (k : CaseDocument) (w : List Bool) (a : Answer) → read_case bytes ≡ Is k
-      → IsWorldOf (is_unread deriving_cases name) (configured k.features name chosen) w → of_derivation (derived_at k w) ≡ a → AnswersDerive bytes name chosen a
+      → IsWorldOf (is_unread building_cases name) (configured k.features name chosen) w → of_derivation (derived_at k w) ≡ a → AnswersDerive bytes name chosen a
   derive_answered k w a e i h =
-      derives_from (Is k) a e (world_answers (derives_at k) (is_unread deriving_cases name) (configured k.features name chosen) w a i (sym h))
+      derives_from (Is k) a e (world_answers (derives_at k) (is_unread building_cases name) (configured k.features name chosen) w a i (sym h))
 
   pub derive_refused : (k : CaseDocument) (w : List Bool) (s : Status) → read_case bytes ≡ Is k
-      → IsWorldOf (is_unread deriving_cases name) (configured k.features name chosen) w
+      → IsWorldOf (is_unread building_cases name) (configured k.features name chosen) w
       → Refuses (λ a. of_derivation (derived_at k w) ≡ a) s → Refuses (AnswersDerive bytes name chosen) s
   derive_refused k w s e i h = refuses_by (λ a. of_derivation (derived_at k w) ≡ a) (AnswersDerive bytes name chosen) (λ a. derive_answered k w a e i) s h
 
   pub derive_stops : (k : CaseDocument) (s : Status) → read_case bytes ≡ Is k
-      → StopsConfiguration (is_unread deriving_cases name) (configured k.features name chosen) s → Refuses (AnswersDerive bytes name chosen) s
+      → StopsConfiguration (is_unread building_cases name) (configured k.features name chosen) s → Refuses (AnswersDerive bytes name chosen) s
   derive_stops k s e h =
-      refuses_by (Configured (derives_at k) (is_unread deriving_cases name) (configured k.features name chosen)) (AnswersDerive bytes name chosen)
-      (λ a. derives_from (Is k) a e) s (config_refuses (derives_at k) (is_unread deriving_cases name) (configured k.features name chosen) s h)
+      refuses_by (Configured (derives_at k) (is_unread building_cases name) (configured k.features name chosen)) (AnswersDerive bytes name chosen)
+      (λ a. derives_from (Is k) a e) s (config_refuses (derives_at k) (is_unread building_cases name) (configured k.features name chosen) s h)
 
 -- ---- product
 
 -- what a product answers at a world
 abbrev products_at : Document → Answer → List Bool → Type 0
-products_at d a w = AfterValid (is_valid (bundle_of d).line w) a (a ≡ product_answer deriving_cases (bundle_of d) w)
+products_at d a w = AfterValid (is_valid (bundle_of d).line w) a (a ≡ product_answer building_cases (bundle_of d) w)
 
 valid_or_not : (v : Bool) (a : Answer) (s : List ℕ) → a ≡ of_derivation (if_valid v s) → AfterValid v a (a ≡ of_derivation (if_valid v s))
 valid_or_not true a s e = e
@@ -157,35 +161,37 @@ valid_or_not false a s e = e
 module _ (bundle_name bytes name chosen : List ℕ) where
   abbrev after_bundle : BundleReading → Answer → Type 0
   after_bundle r a = AfterBundle r a (λ d b.
-      AfterConfiguration (is_unread deriving_cases name) (configured (feature_names b.line) name chosen) a (λ w.
-      AfterValid (is_valid b.line w) a (a ≡ product_answer deriving_cases b w)))
+      AfterConfiguration (is_unread building_cases name) (configured (feature_names b.line) name chosen) a (λ w.
+      AfterValid (is_valid b.line w) a (a ≡ product_answer building_cases b w)))
 
-  product_from : (r : BundleReading) (a : Answer) → bundle_in deriving_cases bundle_name bytes ≡ r → after_bundle r a
-      → IsAnswer deriving_cases (Product bundle_name name) (bytes ∷ chosen ∷ []) a
+  product_from : (r : BundleReading) (a : Answer) → bundle_in building_cases bundle_name bytes ≡ r → after_bundle r a
+      → IsAnswer building_cases (Product bundle_name name) (bytes ∷ chosen ∷ []) a
   unfolding IsAnswer
   product_from r a e h = subst (λ x. after_bundle x a) (sym e) h
 
-  pub product_answered : (d : Document) (a : Answer) → IsGoodBundle (bundle_in deriving_cases bundle_name bytes) d → AnswersProduct d name chosen a
-      → IsAnswer deriving_cases (Product bundle_name name) (bytes ∷ chosen ∷ []) a
+  pub product_answered : (d : Document) (a : Answer) → IsGoodBundle (bundle_in building_cases bundle_name bytes) d → AnswersProduct d name chosen a
+      → IsAnswer building_cases (Product bundle_name name) (bytes ∷ chosen ∷ []) a
   product_answered d a i h = product_from (Good d (bundle_of d)) a i.good h
 
-  pub product_refused : (d : Document) (s : Status) → IsGoodBundle (bundle_in deriving_cases bundle_name bytes) d
-      → Refuses (AnswersProduct d name chosen) s → Refuses (IsAnswer deriving_cases (Product bundle_name name) (bytes ∷ chosen ∷ [])) s
+  pub product_refused : (d : Document) (s : Status) → IsGoodBundle (bundle_in building_cases bundle_name bytes) d
+      → Refuses (AnswersProduct d name chosen) s → Refuses (IsAnswer building_cases (Product bundle_name name) (bytes ∷ chosen ∷ [])) s
   product_refused d s i h =
-      refuses_by (AnswersProduct d name chosen) (IsAnswer deriving_cases (Product bundle_name name) (bytes ∷ chosen ∷ [])) (λ a. product_answered d a i) s h
+      refuses_by (AnswersProduct d name chosen) (IsAnswer building_cases (Product bundle_name name) (bytes ∷ chosen ∷ [])) (λ a. product_answered d a i) s h
 
-  bundle_faulty : (fs : List BundleFault) (f : BundleFault) → bundle_in deriving_cases bundle_name bytes ≡ Faulty fs → Contains fs f
-      → IsAnswer deriving_cases (Product bundle_name name) (bytes ∷ chosen ∷ []) (refusal (BadBundle f))
+  bundle_faulty : (fs : List BundleFault) (f : BundleFault) → bundle_in building_cases bundle_name bytes ≡ Faulty fs → Contains fs f
+      → IsAnswer building_cases (Product bundle_name name) (bytes ∷ chosen ∷ []) (refusal (BadBundle f))
   bundle_faulty fs f e h = product_from (Faulty fs) (refusal (BadBundle f)) e (f, h, refl)
 
-  pub product_stops : (s : Status) → StopsBundle (bundle_in deriving_cases bundle_name bytes) s
-      → Refuses (IsAnswer deriving_cases (Product bundle_name name) (bytes ∷ chosen ∷ [])) s
+  pub product_stops : (s : Status) → StopsBundle (bundle_in building_cases bundle_name bytes) s
+      → Refuses (IsAnswer building_cases (Product bundle_name name) (bytes ∷ chosen ∷ [])) s
   product_stops status.Done h = absurd h
   product_stops status.BadWords h = absurd h
   product_stops (status.BadBundle f) h = bundle_faulty h.0 (fault_of f) h.1 h.2
   product_stops (status.BadConfig rule at) h = absurd h
   product_stops status.NotValid h = absurd h
   product_stops (status.BadCase fault) h = absurd h
+  product_stops (status.NodeLimit used) h = absurd h
+  product_stops (status.BigCase entries) h = absurd h
   product_stops (status.TooLong k) h = absurd h
   product_stops (status.ReadFault k) h = absurd h
   product_stops status.WriteFault h = absurd h
@@ -233,19 +239,19 @@ module _ (d : Document) (passes : thin_bundle_passes d ≡ true) (case : ThinCas
     abbrev named : List (List ℕ) → Configuration
     named fs = configured fs name chosen
 
-    pub text_answered : (w : List Bool) (a : Answer) → IsWorldOf (is_unread deriving_cases name) (configured features name chosen) w → length w ≡ length case.features
+    pub text_answered : (w : List Bool) (a : Answer) → IsWorldOf (is_unread building_cases name) (configured features name chosen) w → length w ≡ length case.features
         → of_derivation (derived_at (case_document case) w) ≡ a → AnswersProduct d name chosen a
     text_answered w a i l h =
-        world_answers (products_at d) (is_unread deriving_cases name) (configured (feature_names (bundle_of d).line) name chosen) w a
-        (subst (λ fs. IsWorldOf (is_unread deriving_cases name) (named fs) w) (same ∙ features_of_line) i)
+        world_answers (products_at d) (is_unread building_cases name) (configured (feature_names (bundle_of d).line) name chosen) w a
+        (subst (λ fs. IsWorldOf (is_unread building_cases name) (named fs) w) (same ∙ features_of_line) i)
         (valid_or_not (is_valid (bundle_of d).line w) a _ (sym h ∙ ap of_derivation (derived_is_direct w l)))
 
-    pub text_refused : (w : List Bool) (s : Status) → IsWorldOf (is_unread deriving_cases name) (configured features name chosen) w → length w ≡ length case.features
+    pub text_refused : (w : List Bool) (s : Status) → IsWorldOf (is_unread building_cases name) (configured features name chosen) w → length w ≡ length case.features
         → Refuses (λ a. of_derivation (derived_at (case_document case) w) ≡ a) s → Refuses (AnswersProduct d name chosen) s
     text_refused w s i l h =
         refuses_by (λ a. of_derivation (derived_at (case_document case) w) ≡ a) (AnswersProduct d name chosen) (λ a. text_answered w a i l) s h
 
-    pub text_stops : (s : Status) → StopsConfiguration (is_unread deriving_cases name) (configured features name chosen) s → Refuses (AnswersProduct d name chosen) s
+    pub text_stops : (s : Status) → StopsConfiguration (is_unread building_cases name) (configured features name chosen) s → Refuses (AnswersProduct d name chosen) s
     text_stops s h =
-        config_refuses (products_at d) (is_unread deriving_cases name) (configured (feature_names (bundle_of d).line) name chosen) s
-        (subst (λ fs. StopsConfiguration (is_unread deriving_cases name) (named fs) s) (same ∙ features_of_line) h)
+        config_refuses (products_at d) (is_unread building_cases name) (configured (feature_names (bundle_of d).line) name chosen) s
+        (subst (λ fs. StopsConfiguration (is_unread building_cases name) (named fs) s) (same ∙ features_of_line) h)

@@ -19,9 +19,9 @@ use Rattle.meaning.proofs.CutTrees.{Each}
 use Rattle.meaning.proofs.NameTexts.{place_among}
 use Rattle.meaning.proofs.ThinModels.{thin_is_a}
 use Rattle.meaning.proofs.ThinTables.{all_met}
-use Rattle.lifted_case.specs.declared.thin.ThinCase.{ThinCase}
-use Rattle.lifted_case.specs.declared.thin.ThinNode.{ThinNode}
-use Rattle.lifted_case.specs.View.{node_conditions, conditions, kind_of, node_of, relation_of, document_over, case_document}
+use Rattle.workbench.specs.declared.thin_data.ThinCase.{ThinCase}
+use Rattle.workbench.specs.declared.thin_data.ThinNode.{ThinNode}
+use Rattle.workbench.specs.ThinView.{node_conditions, conditions, kind_of, node_of, relation_of, document_over, case_document}
 use Rattle.workbench.specs.ThinParts.{NodeTold, piece_for, node_told, goal_told, element_told, condition_in, is_of_type, conditions_told, elements_told, relation_told, relations_told}
 
 -- ---- what is met
@@ -44,7 +44,7 @@ met_in_case fs =
 
 -- ---- the nodes, as they tell
 
-abbrev conditions_of_told : List NodeTold → List ℕ
+abbrev pub conditions_of_told : List NodeTold → List ℕ
 conditions_of_told [] = []
 conditions_of_told (n ∷ ns) = n.when ∷ (n.branches ++ conditions_of_told ns)
 
@@ -59,7 +59,7 @@ node_of_told met n = record {
   finding = None;
 }
 
-told_conditions : (ns : List ThinNode) → node_conditions ns ≡ conditions_of_told (map node_told ns)
+pub told_conditions : (ns : List ThinNode) → node_conditions ns ≡ conditions_of_told (map node_told ns)
 told_conditions [] = refl
 told_conditions (n ∷ ns) = ap (λ fs. n.when ∷ (n.branches ++ fs)) (told_conditions ns)
 
@@ -90,7 +90,7 @@ relations_are : (met : List ℕ) (k : ℕ) (fs : List ℕ) → map (relation_of 
 relations_are met k [] = refl
 relations_are met k (f ∷ fs) = ap (λ rs. case_relation 1 k (condition_id met f) ∷ rs) (relations_are met (k + 1) fs)
 
-relations_conditions : (k : ℕ) (fs : List ℕ) → map (λ r. r.when) (relations_told k fs) ≡ fs
+pub relations_conditions : (k : ℕ) (fs : List ℕ) → map (λ r. r.when) (relations_told k fs) ≡ fs
 relations_conditions k [] = refl
 relations_conditions k (f ∷ fs) = ap (λ gs. f ∷ gs) (relations_conditions (k + 1) fs)
 

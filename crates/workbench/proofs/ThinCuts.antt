@@ -1,20 +1,19 @@
 -- The cut of a thin case at a world in which the root is true, as the cut of the case whose conditions are their truth there.
-use Rattle.std.proofs.Common.{◌≡◌, refl, sym, ap, ap₂, ◌∙◌, ℕ, zero, suc, ◌+◌, List, [], ◌∷◌, ◌++◌, map, take, Bool, true, false, ◌||◌, ◌==◌, Option}
+use Rattle.std.proofs.Common.{◌≡◌, refl, sym, ap, ap₂, ◌∙◌, ℕ, zero, suc, ◌+◌, List, [], ◌∷◌, ◌++◌, map, take, Bool, true, false, ◌||◌, ◌==◌}
 use Rattle.std.specs.Prelude.{cond, filter, count_by, option_map, unwrap_or, ◌&&◌}
 use Rattle.std.specs.List.{slice_get}
 use Rattle.std.proofs.lemmas.List.Sums.{sum_by-cons}
 use Rattle.meaning.specs.Texts.{flat, holds_at}
-use Rattle.meaning.specs.Cases.{NodeKind, Node, Relation, RelationKind, Case}
+use Rattle.meaning.specs.Cases.{Node}
 use Rattle.meaning.specs.CaseFiles.{CaseNode, CaseRelation, CaseDocument, holds, cut, part_at, node_at_world, is_there, number_there, relation_at_world}
-use Rattle.meaning.specs.Templates.{joined_parts}
 use Rattle.meaning.specs.ThinCases.{condition_id, is_met, met_after}
 use Rattle.meaning.proofs.CutTrees.{Each}
 use Rattle.meaning.proofs.ThinTables.{condition_walks, root_walks, all_met}
 use Rattle.meaning.proofs.ThinModels.{text_joined}
-use Rattle.lifted_case.specs.declared.thin.ThinCase.{ThinCase}
-use Rattle.lifted_case.specs.declared.thin.ThinNode.{ThinNode}
-use Rattle.lifted_case.specs.declared.thin.ThinRel.{ThinRel}
-use Rattle.lifted_case.specs.View.{part_of, node_of, relation_of, node_conditions, conditions, document_over, case_document}
+use Rattle.workbench.specs.declared.thin_data.ThinCase.{ThinCase}
+use Rattle.workbench.specs.declared.thin_data.ThinNode.{ThinNode}
+use Rattle.workbench.specs.declared.thin_data.ThinRel.{ThinRel}
+use Rattle.workbench.specs.ThinView.{part_of, node_of, relation_of, node_conditions, conditions, document_over, case_document}
 use Rattle.case_derive.specs.OneWorld.{id_of}
 use Rattle.workbench.specs.ThinWorlds.{node_at_one, relation_at_one, thin_document_at_one}
 

@@ -8,9 +8,9 @@ use Rattle.meaning.proofs.ThinNodes.{short_key, short_strategy_key}
 use Rattle.doc_tree.specs.declared.doc.Doc.{Doc}
 use Rattle.doc_tree.specs.View.{document, documents}
 use Rattle.doc_tree.proofs.Walks.{documents-drop}
-use Rattle.lifted_case.specs.declared.thin.ThinNode.{ThinNode}
-use Rattle.lifted_case.specs.declared.thin.ThinPart.{ThinPart}
-use Rattle.lifted_case.specs.View.{part_of}
+use Rattle.workbench.specs.declared.thin_data.ThinNode.{ThinNode}
+use Rattle.workbench.specs.declared.thin_data.ThinPart.{ThinPart}
+use Rattle.workbench.specs.ThinView.{part_of}
 use Rattle.workbench.specs.ThinParts.{NodeTold, pieces_for, node_told, strategy_told, element_told, condition_in, elements_told}
 
 pub element_is_told : (text : List ℕ) (number : ℕ) (name : List ℕ) (when : ℕ) (key : List ℕ) (parts : List ThinPart) (branches : List ℕ)

@@ -11,9 +11,9 @@ use Rattle.meaning.specs.ThinForm.{outside_holes}
 use Rattle.meaning.specs.ThinForm as form
 use Rattle.meaning.specs.StrategyTests.{segments_of}
 use Rattle.meaning.proofs.EmptyLists.{both_true}
-use Rattle.lifted_case.specs.declared.thin.ThinPart.{ThinPart}
-use Rattle.lifted_case.specs.declared.thin.ThinPart.TheVariants as part
-use Rattle.lifted_case.specs.View.{part_of}
+use Rattle.workbench.specs.declared.thin_data.ThinPart.{ThinPart}
+use Rattle.workbench.specs.declared.thin_data.ThinPart.TheVariants as part
+use Rattle.workbench.specs.ThinView.{part_of}
 use Rattle.workbench.specs.ThinParts.{HasOneHole, hole_part, piece_for, after_byte}
 
 -- ---- joined pieces

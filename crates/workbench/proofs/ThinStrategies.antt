@@ -27,9 +27,10 @@ use Rattle.meaning.proofs.StrategyNodes.{strategy_facts}
 use Rattle.meaning.proofs.StrategyDocuments.{text_facts, strategy_text_passes, last_facts, passing_thin_template, thin_passing_parts}
 use Rattle.doc_tree.specs.declared.doc.Doc.{Doc}
 use Rattle.doc_tree.specs.View.{document, documents}
-use Rattle.lifted_case.specs.declared.thin.ThinCase.{ThinCase}
-use Rattle.lifted_case.proofs.OneGoal.{goal_node, case_document-one_goal}
-use Rattle.lifted_case.specs.View.{case_document}
+use Rattle.workbench.specs.declared.thin_data.ThinCase.{ThinCase}
+use Rattle.workbench.proofs.OneGoal.{case_document-one_goal}
+use Rattle.workbench.specs.ThinView.{goal_node}
+use Rattle.workbench.specs.ThinView.{case_document}
 use Rattle.workbench.specs.ThinParts.{NodeTold, IsOverElements, nodes_in, node_told, goal_told, elements_told, pieces_for, is_of_type, condition_in, conditions_told, relation_told, relations_told, conditions_over, relations_over, nodes_told}
 use Rattle.workbench.proofs.ThinCaseLemmas.{case_document-strategy, conditions_are, goals_are, those_from, element_goal_told, strategy_parts_are}
 

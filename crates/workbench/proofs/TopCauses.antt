@@ -1,17 +1,18 @@
 -- From what the parts of the top call did to the causes that its promise gives.
-use Rattle.std.proofs.Common.{◌≡◌, refl, sym, ap, ◌∙◌, subst, inl, inr, ℕ, lit≤, List, [], ◌∷◌, length, arith}
+use Rattle.std.proofs.Common.{◌≡◌, refl, sym, ap, ◌∙◌, subst, inl, inr, ℕ, lit≤, List, [], ◌∷◌, length, true, false, arith}
 use Rattle.std.specs.Prelude.{◌⊎◌, Option, Some, None}
 use Rattle.std.proofs.lemmas.List.{take_all, append-nil}
 use Rattle.meaning.specs.Counts.{appended}
 use Rattle.meaning.specs.Statuses as meaning
 use Rattle.meaning.specs.Statuses.{status_line}
-use Rattle.meaning.specs.Words.{Task, File, files_of}
+use Rattle.meaning.specs.Words.{Task, Invocation, File, files_of, uses_diagrams}
 use Rattle.meaning.specs.Answers.{Answer, Prints}
-use Rattle.meaning.specs.TopCall.{Outside, Says, IfTold, AgreeWith, Answered, Cause, OutKept, LinesOf, NoLimit, PlainPromise}
+use Rattle.meaning.specs.TopCall.{Outside, Says, IfTold, AgreeWith, Answered, Cause, OutKept, LinesOf, Promise, LeftShut, Diagrams}
 use Rattle.workbench.specs.declared.status.Status.{Status}
 use Rattle.workbench.specs.declared.status.Status.TheVariants as status
 use Rattle.workbench.specs.StatusView.{status_view}
-use Rattle.workbench.specs.DerivingStage.{deriving_cases}
+use Rattle.workbench.specs.BuildingStage.{building_cases}
+use Rattle.workbench.specs.Limits.{IsOpenedWith, IsShutBut, LimitAt, OpenedWith}
 use Rattle.workbench.specs.Run.{shelf_of, AnswersTask, StopsTask, Stops, Printed}
 
 -- ---- what is said
@@ -34,8 +35,8 @@ nothing_said old faults = record { count = 0; grew = nothing_more old; whole = i
 -- ---- the task that the words are
 
 module _ (words : List (List ℕ)) (before after : Outside) (task : Task) (limit : ℕ)
-    (reads : deriving_cases.reads words ≡ Some (record { task = task; node_limit = limit })) where
-  pub words_answered : (answer : Answer) → AnswersTask task before answer → Answered deriving_cases words before answer
+    (old new : Diagrams) (reads : building_cases.reads words ≡ Some (record { task = task; node_limit = limit })) where
+  pub words_answered : (answer : Answer) → AnswersTask task before answer → Answered building_cases words before answer
   words_answered answer a = record {
     invocation = record { task = task; node_limit = limit };
     reads = reads;
@@ -44,13 +45,24 @@ module _ (words : List (List ℕ)) (before after : Outside) (task : Task) (limit
     is = a.is;
   }
 
-  pub words_stop : (s : Status) → StopsTask task before after s → Stops words before after s
+  pub words_stop : (s : Status) → StopsTask task limit before after old new s → Stops words before after old new s
   words_stop status.Done h = absurd h
   words_stop status.BadWords h = absurd h
   words_stop (status.BadBundle fault) h = record { answer = words_answered _ h }
   words_stop (status.BadConfig rule at) h = record { answer = words_answered _ h }
   words_stop status.NotValid h = record { answer = words_answered _ h }
   words_stop (status.BadCase fault) h = record { answer = words_answered _ h }
+  words_stop (status.NodeLimit used) h = record {
+    invocation = record { task = task; node_limit = limit };
+    reads = reads;
+    within = h.within;
+    with_diagrams = h.with_diagrams;
+    used_all = h.reached.used_all;
+    cause = h.reached.cause;
+    opened = h.reached.opened;
+    with_limit = h.reached.with_limit;
+  }
+  words_stop (status.BigCase entries) h = record { answer = words_answered _ h }
   words_stop (status.TooLong file) h = record {
     invocation = record { task = task; node_limit = limit };
     reads = reads;
@@ -73,6 +85,21 @@ module _ (words : List (List ℕ)) (before after : Outside) (task : Task) (limit
   words_stop status.NoMemory h = tt
   words_stop status.Unsupported h = record { answer = words_answered _ h }
 
+  pub words_opened : IsOpenedWith limit new → OpenedWith building_cases words new
+  words_opened h there = (record { task = task; node_limit = limit }, reads, h there)
+
+  pub words_left_shut : IsShutBut task new → LeftShut building_cases words new
+  words_left_shut h i same plain =
+      let is : i ≡ record { task = task; node_limit = limit } = unwrap_same (sym same ∙ reads) in
+      h (subst (λ (x : Invocation). uses_diagrams x.task ≡ false) is plain)
+    where
+      unwrap_same : {A : Type 0} {x y : A} → Some x ≡ Some y → x ≡ y
+      unwrap_same e = cc
+
+-- diagrams that are shut are so under words that have no reading
+pub unread_opened : (words : List (List ℕ)) (new : Diagrams) → new.is_open ≡ false → OpenedWith building_cases words new
+unread_opened words new shut there = absurd (let n : false ≡ true = sym shut ∙ there in cc)
+
 -- ---- the outside around the shelf
 
 -- what is told of the files is all that an answer rests on
@@ -82,15 +109,15 @@ agree_with o p e [] (s ∷ ss) a = absurd a
 agree_with o p e (f ∷ fs) [] a = absurd a
 agree_with o p e (f ∷ fs) (s ∷ ss) a = (subst (λ h. IfTold (h f.name) s) e a.0, (a.1.0, agree_with o p e fs ss a.1.1))
 
-module _ (words : List (List ℕ)) (before after : Outside) where
+module _ (words : List (List ℕ)) (before after : Outside) (old new : Diagrams) where
   shelf : Outside
   shelf = shelf_of before.holds before.faults before.next before.given
 
   shelf_after : Outside
   shelf_after = shelf_of after.holds after.faults after.next after.given
 
-  pub answered_outside : (answer : Answer) → Answered deriving_cases words (shelf_of before.holds before.faults before.next before.given) answer
-      → Answered deriving_cases words before answer
+  pub answered_outside : (answer : Answer) → Answered building_cases words (shelf_of before.holds before.faults before.next before.given) answer
+      → Answered building_cases words before answer
   answered_outside answer a = record {
     invocation = a.invocation;
     reads = a.reads;
@@ -99,14 +126,25 @@ module _ (words : List (List ℕ)) (before after : Outside) where
     is = a.is;
   }
 
-  cause_outside : (s : Status) → Stops words (shelf_of before.holds before.faults before.next before.given) (shelf_of after.holds after.faults after.next after.given) s
-      → Cause deriving_cases words before after NoLimit (status_line (status_view s)) (status_view s)
+  cause_outside : (s : Status) → Stops words (shelf_of before.holds before.faults before.next before.given) (shelf_of after.holds after.faults after.next after.given) old new s
+      → Cause building_cases words before after (LimitAt building_cases words before old new) (status_line (status_view s)) (status_view s)
   cause_outside status.Done h = absurd h
   cause_outside status.BadWords h = h
   cause_outside (status.BadBundle fault) h = record { answer = answered_outside _ h.answer }
   cause_outside (status.BadConfig rule at) h = record { answer = answered_outside _ h.answer }
   cause_outside status.NotValid h = record { answer = answered_outside _ h.answer }
   cause_outside (status.BadCase fault) h = record { answer = answered_outside _ h.answer }
+  cause_outside (status.NodeLimit used) h = record {
+    invocation = h.invocation;
+    reads = h.reads;
+    within = h.within;
+    with_diagrams = h.with_diagrams;
+    used_all = h.used_all;
+    cause = h.cause;
+    opened = h.opened;
+    with_limit = h.with_limit;
+  }
+  cause_outside (status.BigCase entries) h = record { answer = answered_outside _ h.answer }
   cause_outside (status.TooLong file) h = record {
     invocation = h.invocation;
     reads = h.reads;
@@ -129,7 +167,7 @@ module _ (words : List (List ℕ)) (before after : Outside) where
   cause_outside status.NoMemory h = tt
   cause_outside status.Unsupported h = record { answer = answered_outside _ h.answer }
 
-  out_kept : (s : Status) → Stops words (shelf_of before.holds before.faults before.next before.given) (shelf_of after.holds after.faults after.next after.given) s
+  out_kept : (s : Status) → Stops words (shelf_of before.holds before.faults before.next before.given) (shelf_of after.holds after.faults after.next after.given) old new s
       → after.out ≡ before.out → OutKept before after (status_view s)
   out_kept status.Done h e = tt
   out_kept status.BadWords h e = e
@@ -137,6 +175,8 @@ module _ (words : List (List ℕ)) (before after : Outside) where
   out_kept (status.BadConfig rule at) h e = e
   out_kept status.NotValid h e = e
   out_kept (status.BadCase fault) h e = e
+  out_kept (status.NodeLimit used) h e = e
+  out_kept (status.BigCase entries) h e = e
   out_kept (status.TooLong file) h e = e
   out_kept (status.ReadFault file) h e = e
   out_kept status.WriteFault h e = tt
@@ -150,15 +190,17 @@ module _ (words : List (List ℕ)) (before after : Outside) where
   lines_of (status.BadConfig rule at) = refl
   lines_of status.NotValid = refl
   lines_of (status.BadCase fault) = refl
+  lines_of (status.NodeLimit used) = refl
+  lines_of (status.BigCase entries) = refl
   lines_of (status.TooLong file) = refl
   lines_of (status.ReadFault file) = refl
   lines_of status.WriteFault = refl
   lines_of status.NoMemory = refl
   lines_of status.Unsupported = refl
 
-  pub stopped_promise : (s : Status) → Stops words (shelf_of before.holds before.faults before.next before.given) (shelf_of after.holds after.faults after.next after.given) s
+  pub stopped_promise : (s : Status) → Stops words (shelf_of before.holds before.faults before.next before.given) (shelf_of after.holds after.faults after.next after.given) old new s
       → after.out ≡ before.out → Says before.err after.err before.err_faults after.err_faults (status_line (status_view s))
-      → PlainPromise deriving_cases words before after (status_view s)
+      → Promise building_cases words before after (LimitAt building_cases words before old new) (status_view s)
   stopped_promise s h e said = record {
     lines = status_line (status_view s);
     cause = cause_outside s h;
@@ -168,18 +210,18 @@ module _ (words : List (List ℕ)) (before after : Outside) where
   }
 
   -- the status, or want of memory in its place
-  pub refused_promise : (s r : Status) → Stops words (shelf_of before.holds before.faults before.next before.given) (shelf_of after.holds after.faults after.next after.given) s
+  pub refused_promise : (s r : Status) → Stops words (shelf_of before.holds before.faults before.next before.given) (shelf_of after.holds after.faults after.next after.given) old new s
       → (r ≡ s) ⊎ (r ≡ status.NoMemory) → after.out ≡ before.out → Says before.err after.err before.err_faults after.err_faults (status_line (status_view r))
-      → PlainPromise deriving_cases words before after (status_view r)
+      → Promise building_cases words before after (LimitAt building_cases words before old new) (status_view r)
   refused_promise s r h (inl same) e said =
-      stopped_promise r (subst (λ x. Stops words (shelf_of before.holds before.faults before.next before.given) (shelf_of after.holds after.faults after.next after.given) x) (sym same) h) e said
+      stopped_promise r (subst (λ x. Stops words (shelf_of before.holds before.faults before.next before.given) (shelf_of after.holds after.faults after.next after.given) old new x) (sym same) h) e said
   refused_promise s r h (inr none) e said =
-      stopped_promise r (subst (λ x. Stops words (shelf_of before.holds before.faults before.next before.given) (shelf_of after.holds after.faults after.next after.given) x) (sym none) tt) e said
+      stopped_promise r (subst (λ x. Stops words (shelf_of before.holds before.faults before.next before.given) (shelf_of after.holds after.faults after.next after.given) old new x) (sym none) tt) e said
 
-  pub printed_promise : (s : Status) (bytes : List ℕ) → Answered deriving_cases words (shelf_of before.holds before.faults before.next before.given) (Prints bytes)
+  pub printed_promise : (s : Status) (bytes : List ℕ) → Answered building_cases words (shelf_of before.holds before.faults before.next before.given) (Prints bytes)
       → Printed s before.out after.out before.out_faults after.out_faults bytes
       → Says before.err after.err before.err_faults after.err_faults (status_line (status_view s))
-      → PlainPromise deriving_cases words before after (status_view s)
+      → Promise building_cases words before after (LimitAt building_cases words before old new) (status_view s)
   printed_promise status.Done bytes a p said = record {
     lines = status_line meaning.Done;
     cause = record { bytes = bytes; answer = answered_outside (Prints bytes) a; printed = p };
@@ -199,6 +241,8 @@ module _ (words : List (List ℕ)) (before after : Outside) where
   printed_promise (status.BadConfig rule at) bytes a p said = absurd p
   printed_promise status.NotValid bytes a p said = absurd p
   printed_promise (status.BadCase fault) bytes a p said = absurd p
+  printed_promise (status.NodeLimit used) bytes a p said = absurd p
+  printed_promise (status.BigCase entries) bytes a p said = absurd p
   printed_promise (status.TooLong file) bytes a p said = absurd p
   printed_promise (status.ReadFault file) bytes a p said = absurd p
   printed_promise status.NoMemory bytes a p said = absurd p

@@ -1,7 +1,8 @@
 pub mod PlainWords
 pub mod WordsView
 pub mod StatusView
-pub mod DerivingStage
+pub mod BuildingStage
+pub mod Limits
 pub mod ItemNames
 pub mod Run
 pub mod Readings
@@ -9,3 +10,7 @@ pub mod Stopped
 pub mod HoleTexts
 pub mod ThinParts
 pub mod ThinWorlds
+pub mod ThinLifted
+pub mod ThinConditions
+pub mod ThinDocuments
+pub mod ThinView

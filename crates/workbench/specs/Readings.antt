@@ -1,5 +1,5 @@
 -- What the readers of bundles, cases and configurations tell, and why they stop.
-use Rattle.std.specs.Prelude.{◌≡◌, ℕ, ⊤, List, [], ◌∷◌, Bool, true, false, Option, Some, Contains, is_none}
+use Rattle.std.specs.Prelude.{◌≡◌, ℕ, ⊤, List, [], ◌∷◌, Bool, true, false, Some, Contains, is_none}
 use Rattle.meaning.specs.Documents.{Document, Json, document_of, as_table}
 use Rattle.meaning.specs.Features.{feature_names, is_valid}
 use Rattle.meaning.specs.BundlePlaces.{BundleFault, is_table_value}
@@ -14,7 +14,7 @@ use Rattle.meaning.specs.Answers.{Answer, BundleReading, Faulty, NotBuilt, Good,
 use Rattle.doc_tree.specs.Places.{fault_of}
 use Rattle.workbench.specs.declared.status.Status.{Status}
 use Rattle.workbench.specs.declared.status.Status.TheVariants as status
-use Rattle.workbench.specs.DerivingStage.{deriving_cases}
+use Rattle.workbench.specs.BuildingStage.{building_cases}
 
 -- ---- bundles
 
@@ -68,10 +68,10 @@ StopsTable bytes s = ⊥
 
 -- the answer of a derivation to the bytes of a case and of a configuration; the case's name counts for nothing
 abbrev pub AnswersDerive : (bytes name chosen : List ℕ) → Answer → Type 0
-AnswersDerive bytes name chosen a = (case : List ℕ) → IsAnswer deriving_cases (Derive case name) (bytes ∷ chosen ∷ []) a
+AnswersDerive bytes name chosen a = (case : List ℕ) → IsAnswer building_cases (Derive case name) (bytes ∷ chosen ∷ []) a
 
 -- the answer of a product to a bundle document that is built
 abbrev pub AnswersProduct : Document → (name chosen : List ℕ) → Answer → Type 0
 AnswersProduct d name chosen a =
-    AfterConfiguration (is_unread deriving_cases name) (configured (feature_names (bundle_of d).line) name chosen) a (λ w.
-    AfterValid (is_valid (bundle_of d).line w) a (a ≡ product_answer deriving_cases (bundle_of d) w))
+    AfterConfiguration (is_unread building_cases name) (configured (feature_names (bundle_of d).line) name chosen) a (λ w.
+    AfterValid (is_valid (bundle_of d).line w) a (a ≡ product_answer building_cases (bundle_of d) w))

@@ -11,9 +11,9 @@ use Rattle.meaning.specs.LineRules.{features_in, feature_names_in}
 use Rattle.meaning.specs.ModelRules.{model_in}
 use Rattle.meaning.specs.ThinForm.{outside_holes, is_plain_strategy}
 use Rattle.meaning.specs.StrategyTests.{segments_of, type_of_each}
-use Rattle.lifted_case.specs.declared.thin.ThinNode.{ThinNode}
-use Rattle.lifted_case.specs.declared.thin.ThinRel.{ThinRel}
-use Rattle.lifted_case.specs.View.{part_of}
+use Rattle.workbench.specs.declared.thin_data.ThinNode.{ThinNode}
+use Rattle.workbench.specs.declared.thin_data.ThinRel.{ThinRel}
+use Rattle.workbench.specs.ThinView.{part_of}
 
 -- ---- texts
 

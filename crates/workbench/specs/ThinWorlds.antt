@@ -1,12 +1,12 @@
 -- The case of a thin bundle at one world, in which the root is true.
-use Rattle.std.specs.Prelude.{ℕ, List, [], map, Bool, false, Option, None}
+use Rattle.std.specs.Prelude.{List, [], map, Bool, false, None}
 use Rattle.meaning.specs.Texts.{holds_at}
 use Rattle.meaning.specs.Cases.{SupportedBy}
 use Rattle.meaning.specs.CaseFiles.{CaseNode, CaseRelation, CaseDocument}
-use Rattle.lifted_case.specs.declared.thin.ThinCase.{ThinCase}
-use Rattle.lifted_case.specs.declared.thin.ThinNode.{ThinNode}
-use Rattle.lifted_case.specs.declared.thin.ThinRel.{ThinRel}
-use Rattle.lifted_case.specs.View.{part_of, kind_of}
+use Rattle.workbench.specs.declared.thin_data.ThinCase.{ThinCase}
+use Rattle.workbench.specs.declared.thin_data.ThinNode.{ThinNode}
+use Rattle.workbench.specs.declared.thin_data.ThinRel.{ThinRel}
+use Rattle.workbench.specs.ThinView.{part_of, kind_of}
 use Rattle.case_derive.specs.OneWorld.{id_of}
 
 -- each condition is the identifier of its truth

@@ -5,7 +5,7 @@ ghost use Rattle.meaning.specs.Answers.{bundle_in};
 ghost use Rattle.meaning.specs.BundlePlaces.{is_table_value};
 ghost use Rattle.meaning.specs.StrategyTests.{thin_bundle_passes};
 ghost use Rattle.doc_tree.specs.View.{document};
-ghost use Rattle.workbench.specs.DerivingStage.{deriving_cases};
+ghost use Rattle.workbench.specs.BuildingStage.{building_cases};
 ghost use Rattle.workbench.specs.Readings.{IsGoodBundle, StopsBundle, StopsDocument};
 
 use crate::files::is_toml;
@@ -25,8 +25,8 @@ const NO_TABLE: BundleFault = BundleFault {
 
 /// The bundle in a file of this name, or why there is none that is built.
 pub fn read_bundle(alloc: Global, name: &str, bytes: &[u8]) -> Result<Doc, Status>
-    ensures good { IfOk result (λ d. IsGoodBundle (bundle_in deriving_cases name.now bytes.now) (document d)) }
-    ensures stopped { IfErr result (StopsBundle (bundle_in deriving_cases name.now bytes.now)) }
+    ensures good { IfOk result (λ d. IsGoodBundle (bundle_in building_cases name.now bytes.now) (document d)) }
+    ensures stopped { IfErr result (StopsBundle (bundle_in building_cases name.now bytes.now)) }
 {
     if is_toml(name) {
         return Err(Status::Unsupported);

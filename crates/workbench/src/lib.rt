@@ -1,18 +1,20 @@
 //! The workbench: the one call that reads the words and the files, and answers.
 //!
-//! [`run`] promises what the record `PlainPromise` of `meaning` says at the stage `deriving_cases` of `specs/DerivingStage.antt`, for every
-//! list of words, every shelf and every pair of sinks. `build` writes the case of a thin bundle, `derive` the text of a case file, whoever wrote
-//! it, at a configuration, and `product` the text of a thin bundle's own product at a configuration. Each refusal has its cause, and the first
-//! one is told: of the words, of reading the files in their order, of the first file, of the configuration, and of the world that it names.
+//! [`run`] promises what the record `Promise` of `meaning` says at the stage `building_cases` of `specs/BuildingStage.antt`, for every list of
+//! words, every shelf, every pair of sinks and shut diagrams. `build` writes the case of a thin bundle, whose conditions are made in diagrams,
+//! `derive` the text of a case file, whoever wrote it, at a configuration, and `product` the text of a thin bundle's own product at a
+//! configuration. Each refusal has its cause, and the first one is told: of the words, of reading the files in their order, of the first file,
+//! of the configuration, of the world that it names, of the node limit, and of the size of the case. `LimitAt` of `specs/Limits.antt` is the
+//! cause of a reached node limit.
 //! A case that `build` wrote derives, for every configuration file, to the same bytes or refusal as the product of its bundle:
 //! `derive_agrees_with_product` of `proofs/DerivedProducts.antt`.
 //!
 //! It is made of small steps, each with its contract: the words, the files, the document of a bundle and the plain tests of thin bundles, the
-//! case and its bytes, the world of a configuration, the case at that world and its text, the output.
+//! case, its conditions in diagrams and its bytes, the world of a configuration, the case at that world and its text, the output.
 //!
 //! Stands on `outside` for files and sinks, on `doc_tree`, `cond_text`, `feature_model` and `lifted_case` for what the files say, on
-//! `case_derive`, `gsn` and `case_text` for the text of one product, and on `meaning`; `specs/Run.antt` and `specs/Readings.antt` have the words
-//! of its contracts.
+//! `conditions` for diagrams, on `case_derive`, `gsn` and `case_text` for the text of one product, and on `meaning`; `specs/Run.antt`,
+//! `specs/Limits.antt` and `specs/Readings.antt` have the words of its contracts.
 #![tactic(auto)]
 
 mod building;
@@ -29,9 +31,13 @@ mod tests;
 mod texts;
 mod thin_bundle;
 mod thin_case;
+mod thin_conditions;
+mod thin_data;
 mod thin_elements;
+mod thin_lifted;
 mod thin_line;
 mod thin_model;
+mod thin_parts;
 mod thin_pieces;
 mod thin_template;
 mod thin_world;

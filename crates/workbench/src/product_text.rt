@@ -6,8 +6,8 @@ ghost use Rattle.meaning.specs.Answers.{Prints, IsAnswer, of_derivation};
 ghost use Rattle.meaning.specs.Derivation.{derived_at};
 ghost use Rattle.meaning.specs.StrategyTests.{thin_bundle_passes};
 ghost use Rattle.doc_tree.specs.View.{document};
-ghost use Rattle.lifted_case.specs.View.{case_document};
-ghost use Rattle.workbench.specs.DerivingStage.{deriving_cases};
+ghost use Rattle.workbench.specs.ThinView.{case_document};
+ghost use Rattle.workbench.specs.BuildingStage.{building_cases};
 ghost use Rattle.workbench.specs.ItemNames.{are_new_after};
 ghost use Rattle.workbench.specs.Run.{Refuses};
 ghost use Rattle.workbench.specs.Readings.{AnswersProduct};
@@ -15,13 +15,13 @@ ghost use Rattle.workbench.specs.Readings.{AnswersProduct};
 use crate::bundle_file::read_bundle;
 use crate::status::Status;
 use crate::thin_case::case_of_bundle;
+use crate::thin_data::ThinCase;
 use crate::thin_world::{at_world, is_true};
 use crate::world::read_world;
 use case_derive::plain;
 use case_text::text;
 use cond_text::{NameStop, Names};
 use doc_tree::{Doc, NoMemory, Word};
-use lifted_case::ThinCase;
 use std::alloc::Global;
 
 /// The text of the product of a bundle that the configuration in a file of this name names, or why there is none.
@@ -32,8 +32,8 @@ pub fn product(
     name: &str,
     chosen: &[u8],
 ) -> Result<Vec<u8>, Status>
-    ensures text { IfOk result (λ v. IsAnswer deriving_cases (Product bundle_name.now name.now) (bytes.now ∷ chosen.now ∷ []) (Prints v.items)) }
-    ensures refused { IfErr result (Refuses (IsAnswer deriving_cases (Product bundle_name.now name.now) (bytes.now ∷ chosen.now ∷ []))) }
+    ensures text { IfOk result (λ v. IsAnswer building_cases (Product bundle_name.now name.now) (bytes.now ∷ chosen.now ∷ []) (Prints v.items)) }
+    ensures refused { IfErr result (Refuses (IsAnswer building_cases (Product bundle_name.now name.now) (bytes.now ∷ chosen.now ∷ []))) }
 {
     let bundle = read_bundle(alloc, bundle_name, bytes)?;
     product_of(alloc, &bundle, name, chosen)
@@ -52,7 +52,7 @@ fn product_of(alloc: Global, bundle: &Doc, name: &str, chosen: &[u8]) -> Result<
 }
 
 /// The texts as names.
-fn names_of(alloc: Global, texts: &[Word]) -> Result<Names, NoMemory>
+pub fn names_of(alloc: Global, texts: &[Word]) -> Result<Names, NoMemory>
     requires few { length texts.now ≤ 256 }
     requires each_once { are_new_after [] texts.now ≡ true }
     ensures { IfOk result (λ names. names ≡ texts.now) }

@@ -3,14 +3,15 @@ ghost use Rattle.meaning.specs.Statuses as meaning;
 ghost use Rattle.workbench.specs.StatusView.{status_view};
 ghost use Rattle.doc_tree.specs.Places.{fault_of};
 ghost use Rattle.lifted_case.specs.CaseView.{fault_view};
-ghost use Rattle.workbench.specs.Stopped.{status_of_case_stop, status_of_config_stop, status_of_cut_stop};
+ghost use Rattle.workbench.specs.Stopped.{status_of_case_stop, status_of_config_stop, status_of_cut_stop, status_of_write_stop};
 ghost use Rattle.workbench.specs.declared.status.Status.TheVariants as variant;
 
 use case_derive::CutStop;
 use doc_tree::{BundleFault, NoMemory};
 use feature_model::ConfigStop;
-use lifted_case::{CaseFault, ReadCaseStop};
+use lifted_case::{CaseFault, CaseStop, ReadCaseStop};
 use std::alloc::{AllocError, Global};
+use worlds::NodeLimit;
 
 /// How a call ended.
 #[derive(Clone, Copy, Debug, PartialEq, Eq)]
@@ -27,6 +28,10 @@ pub enum Status {
     NotValid,
     /// The case breaks this rule.
     BadCase(CaseFault),
+    /// A condition needs more nodes than the limit, which is this, leaves.
+    NodeLimit(u32),
+    /// The case has too many entries, or too many bytes where this is false.
+    BigCase(bool),
     /// The file, counted from 0, is longer than its limit.
     TooLong(u8),
     /// The file, counted from 0, was not read.
@@ -82,6 +87,33 @@ impl From<CutStop> for Status {
     }
 }
 
+impl From<CaseStop> for Status {
+    ghost from_gives = { λ stop status. status ≡ status_of_write_stop stop };
+
+    fn from(stop: CaseStop) -> Status {
+        match stop {
+            CaseStop::BigCase => Status::BigCase(false),
+            CaseStop::NoMemory => Status::NoMemory,
+        }
+    }
+}
+
+impl From<NodeLimit> for Status {
+    ghost from_gives = { λ stop status. status ≡ variant.NodeLimit stop.used };
+
+    fn from(stop: NodeLimit) -> Status {
+        Status::NodeLimit(stop.used)
+    }
+}
+
+impl From<conditions::NoMemory> for Status {
+    ghost from_gives = { λ _ status. status ≡ variant.NoMemory };
+
+    fn from(_: conditions::NoMemory) -> Status {
+        Status::NoMemory
+    }
+}
+
 impl Status {
     /// The exit status of a program that ends so.
     pub fn code(&self) -> u8
@@ -94,6 +126,8 @@ impl Status {
             Status::BadConfig(_, _) => 4,
             Status::NotValid => 5,
             Status::BadCase(_) => 6,
+            Status::NodeLimit(_) => 7,
+            Status::BigCase(_) => 8,
             Status::TooLong(_) => 12,
             Status::ReadFault(_) => 13,
             Status::WriteFault => 14,
@@ -114,6 +148,9 @@ impl Status {
             Status::BadConfig(rule, at) => config_line(alloc, *rule, *at),
             Status::NotValid => String::from_str(alloc, "plcase: not valid\n"),
             Status::BadCase(fault) => case_line(alloc, fault),
+            Status::NodeLimit(used) => format!(in alloc; "plcase: node limit {used} reached\n"),
+            Status::BigCase(true) => String::from_str(alloc, "plcase: big case: entries\n"),
+            Status::BigCase(false) => String::from_str(alloc, "plcase: big case: bytes\n"),
             Status::TooLong(file) => format!(in alloc; "plcase: file {file} too long\n"),
             Status::ReadFault(file) => format!(in alloc; "plcase: file {file} not read\n"),
             Status::WriteFault => String::from_str(alloc, "plcase: output not written\n"),

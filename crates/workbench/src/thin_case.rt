@@ -1,6 +1,7 @@
 //! The case of a thin bundle: with one goal, or with a strategy.
 
-ghost use Rattle.std.specs.Prelude.{◌≡◌, [], ◌∷◌, IfOk, true, map, codes};
+ghost use Rattle.std.specs.Prelude.{◌≡◌, ◌<◌, [], ◌∷◌, IfOk, true, map, length, codes};
+ghost use Rattle.std.specs.List.{All};
 ghost use Rattle.meaning.specs.LineRules.{features_in};
 ghost use Rattle.meaning.specs.ModelRules.{model_in};
 ghost use Rattle.meaning.specs.TemplateRules.{templates_in};
@@ -9,22 +10,23 @@ ghost use Rattle.meaning.specs.ThinCases.{thin_case};
 ghost use Rattle.meaning.specs.ThinTests as tests;
 ghost use Rattle.meaning.specs.StrategyTests as strategy_tests;
 ghost use Rattle.doc_tree.specs.View.{document, documents};
-ghost use Rattle.lifted_case.specs.View.{case_document};
-ghost use Rattle.lifted_case.proofs.OneGoal as one_goal;
+ghost use Rattle.workbench.specs.ThinView.{case_document};
+ghost use Rattle.workbench.specs.ThinView as thin_view;
 ghost use Rattle.workbench.specs.ItemNames.{names_of};
 ghost use Rattle.workbench.specs.ThinParts.{HasOneHole, IsOverElements, node_told, strategy_told, nodes_in, nodes_told, relations_over};
 
+use crate::thin_data::{ThinCase, ThinNode, ThinPart, ThinRel};
 use crate::thin_elements::{add_goals, conditions, relations};
 use crate::thin_pieces::pieces;
 use crate::thin_template::type_of_each;
 use doc_tree::{Doc, NoMemory, Row, Word};
-use lifted_case::{ThinCase, ThinNode, ThinPart, ThinRel};
 use std::alloc::Global;
 
 /// The case of a thin bundle: a goal, and the strategy with a goal for each element if there is one.
 pub fn case_of_bundle(alloc: Global, bundle: &Doc) -> Result<ThinCase, NoMemory>
     requires { strategy_tests.thin_bundle_passes (document bundle.now) ≡ true }
-    ensures { IfOk result (λ case. case_document case ≡ thin_case (strategy_tests.thin_bundle (document bundle.now))) }
+    ensures is { IfOk result (λ case. case_document case ≡ thin_case (strategy_tests.thin_bundle (document bundle.now))) }
+    ensures named { IfOk result (λ case. All (λ f. f < length case.features) (thin_view.conditions case)) }
 {
     let title = Word::of(alloc, bundle.text_at("title"))?;
     let features = names_in(alloc, features_of(bundle))?;
@@ -147,7 +149,7 @@ fn first_text(nodes: &[Doc]) -> &str
 
 /// One goal with this text.
 fn goal_nodes(alloc: Global, goal: &str) -> Result<Row<ThinNode>, NoMemory>
-    ensures { IfOk result (λ nodes. nodes ≡ one_goal.goal_node goal.now ∷ []) }
+    ensures { IfOk result (λ nodes. nodes ≡ thin_view.goal_node goal.now ∷ []) }
 {
     let mut nodes = Vec::new(alloc);
     nodes.push(goal_node(alloc, goal)?)?;
@@ -156,7 +158,7 @@ fn goal_nodes(alloc: Global, goal: &str) -> Result<Row<ThinNode>, NoMemory>
 
 /// The goal at the root of the case.
 fn goal_node(alloc: Global, goal: &str) -> Result<ThinNode, NoMemory>
-    ensures { IfOk result (λ node. node ≡ one_goal.goal_node goal.now) }
+    ensures { IfOk result (λ node. node ≡ thin_view.goal_node goal.now) }
 {
     let key = Word::of(alloc, "0")?;
     let words = Word::of(alloc, goal)?;

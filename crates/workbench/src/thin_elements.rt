@@ -6,9 +6,9 @@ ghost use Rattle.doc_tree.specs.View.{document, documents};
 ghost use Rattle.workbench.specs.ItemNames.{names_of};
 ghost use Rattle.workbench.specs.ThinParts.{HasOneHole, node_told, element_told, condition_in, conditions_told, elements_told, relation_told, relations_told};
 
+use crate::thin_data::{ThinNode, ThinRel};
 use crate::thin_pieces::pieces;
 use doc_tree::{Doc, NoMemory, Row, Word};
-use lifted_case::{ThinNode, ThinRel};
 use std::alloc::Global;
 
 /// The number of the first item with the name, and 0 where there is none.

@@ -3,11 +3,11 @@
 ghost use Rattle.std.specs.Prelude.{◌≡◌, ◌≤◌, IfOk, length, map};
 ghost use Rattle.std.specs.Option.{option_copied};
 ghost use Rattle.meaning.specs.Templates.{joined_parts};
-ghost use Rattle.lifted_case.specs.View.{part_of};
+ghost use Rattle.workbench.specs.ThinView.{part_of};
 ghost use Rattle.workbench.specs.ThinParts.{HasOneHole, hole_part, pieces_for, after_byte};
 
+use crate::thin_data::ThinPart;
 use doc_tree::{NoMemory, Row, Word};
-use lifted_case::ThinPart;
 use std::alloc::Global;
 
 /// The pieces of a text, with a name in place of each hole, or the count where there is no name.

@@ -2,17 +2,18 @@
 
 ghost use Rattle.std.specs.Prelude.{◌≡◌, IfOk, map};
 ghost use Rattle.meaning.specs.Texts.{holds_at};
-ghost use Rattle.lifted_case.specs.View.{part_of};
-ghost use Rattle.lifted_case.specs.View as thin_view;
+ghost use Rattle.workbench.specs.ThinView.{part_of};
+ghost use Rattle.workbench.specs.ThinView as thin_view;
 ghost use Rattle.gsn.specs.View as gsn_view;
 ghost use Rattle.lifted_case.specs.CaseView.{case_part_of};
 ghost use Rattle.case_derive.specs.OneWorld.{id_of, node_over, relation_over, document_at_one};
 ghost use Rattle.workbench.specs.ThinWorlds.{node_at_one, relation_at_one, thin_document_at_one};
 
+use crate::thin_data::{ThinCase, ThinNode, ThinPart, ThinRel};
 use cond_text::Names;
 use doc_tree::{NoMemory, Row, Word};
 use gsn::{NodeKind, RelKind};
-use lifted_case::{LNode, LPart, LRel, Lifted, ThinCase, ThinNode, ThinPart, ThinRel};
+use lifted_case::{LNode, LPart, LRel, Lifted};
 use std::alloc::Global;
 
 /// The case at a world, with these features.

@@ -1,6 +1,7 @@
-ghost use Rattle.std.specs.Prelude.{◌≡◌, map, string_bytes, option_map};
+ghost use Rattle.std.specs.Prelude.{◌≡◌, map, string_bytes, option_map, IfSome};
 ghost use Rattle.meaning.specs.Words as meaning;
 ghost use Rattle.meaning.specs.Words.{limit_of, number_of};
+ghost use Rattle.workbench.specs.Limits.{IsLimit};
 ghost use Rattle.workbench.specs.WordsView.{invocation_view, task_view};
 ghost use Rattle.workbench.specs.PlainWords.{plain_invocation, plain_task_of_one, plain_task_of_two};
 
@@ -39,7 +40,8 @@ pub const GREATEST_NODE_LIMIT: u32 = 1_048_576;
 
 /// The invocation that the words are, the program's name first: the command, its arguments, then possibly `--nodes` and a number.
 pub fn read_words(words: &[String]) -> Option<Invocation<'_>>
-    ensures { option_map invocation_view result ≡ plain_invocation (map string_bytes words.now) }
+    ensures limit { IfSome result (λ i. IsLimit i.node_limit) }
+    ensures words { option_map invocation_view result ≡ plain_invocation (map string_bytes words.now) }
 {
     match words.len() {
         3 => with_limit(task_of_one(&words[1], &words[2]), Some(DEFAULT_NODE_LIMIT)),
@@ -61,7 +63,9 @@ pub fn read_words(words: &[String]) -> Option<Invocation<'_>>
 
 /// The task under a limit, where the words give both.
 fn with_limit(task: Option<Task<'_>>, limit: Option<u32>) -> Option<Invocation<'_>>
-    ensures { option_map invocation_view result ≡ meaning.with_limit limit (option_map task_view task.entry) }
+    requires { IfSome limit IsLimit }
+    ensures limit { IfSome result (λ i. IsLimit i.node_limit) }
+    ensures words { option_map invocation_view result ≡ meaning.with_limit limit (option_map task_view task.entry) }
 {
     let node_limit = limit?;
     let task = task?;
@@ -97,7 +101,8 @@ fn task_of_two<'a>(command: &str, file: &'a str, configuration: &'a str) -> Opti
 
 /// The limit that the two last words give.
 fn node_limit(option: &str, number: &str) -> Option<u32>
-    ensures { result ≡ limit_of option.now number.now }
+    ensures limit { IfSome result IsLimit }
+    ensures words { result ≡ limit_of option.now number.now }
 {
     if option != "--nodes" {
         return None;

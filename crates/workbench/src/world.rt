@@ -3,7 +3,7 @@
 ghost use Rattle.std.specs.Prelude.{◌≡◌, IfOk, IfErr, length};
 ghost use Rattle.meaning.specs.Answers.{configured, is_unread};
 ghost use Rattle.doc_tree.specs.View.{document};
-ghost use Rattle.workbench.specs.DerivingStage.{deriving_cases};
+ghost use Rattle.workbench.specs.BuildingStage.{building_cases};
 ghost use Rattle.workbench.specs.Readings.{IsWorldOf, StopsConfiguration, IsTableOf, StopsTable};
 
 use crate::files::is_toml;
@@ -20,9 +20,9 @@ pub fn read_world(
     bytes: &[u8],
     features: &Names,
 ) -> Result<Row<bool>, Status>
-    ensures world { IfOk result (λ w. IsWorldOf (is_unread deriving_cases name.now) (configured features.now name.now bytes.now) w) }
+    ensures world { IfOk result (λ w. IsWorldOf (is_unread building_cases name.now) (configured features.now name.now bytes.now) w) }
     ensures each_feature { IfOk result (λ w. length w ≡ length features.now) }
-    ensures stopped { IfErr result (StopsConfiguration (is_unread deriving_cases name.now) (configured features.now name.now bytes.now)) }
+    ensures stopped { IfErr result (StopsConfiguration (is_unread building_cases name.now) (configured features.now name.now bytes.now)) }
 {
     if is_toml(name) {
         return Err(Status::Unsupported);

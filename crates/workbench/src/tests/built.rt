@@ -2,7 +2,10 @@
 
 ghost use Rattle.std.specs.Prelude.{◌<◌};
 
-use super::{MIXED, MIXED_CASE, NEVER, ROW, ROW_CASE, SMALLEST, SMALLEST_CASE, run_over};
+use super::{
+    Ended, MIXED, MIXED_CASE, NEVER, ROW, ROW_CASE, SMALLEST, SMALLEST_CASE, assert_ended,
+    run_build, run_over,
+};
 use std::alloc::{AllocError, Global};
 use std::test::Fail;
 
@@ -135,16 +138,8 @@ const REFUSED: [(&str, u8, &str); 21] = [
 #[test]
 fn thin_bundles_become_their_cases(rt: HostRuntime) -> Result<(), Fail> {
     for (bundle, case) in BUILT {
-        let ended = run_over(
-            rt.alloc(),
-            &["build", "bundle.json"],
-            &[("bundle.json", bundle.as_bytes())],
-            NEVER,
-            10,
-        )?;
-        assert_eq!(rt; ended.err.as_slice(), b"".as_slice(), "at {bundle}");
-        assert_eq!(rt; ended.out.as_slice(), case.as_bytes(), "at {bundle}");
-        assert_eq!(rt; ended.code, 0, "at {bundle}");
+        let ended = run_build(rt.alloc(), bundle.as_bytes(), 10)?;
+        assert_ended(&rt, &ended, 0, case.as_bytes(), "", bundle);
     }
     Ok(())
 }
@@ -152,29 +147,17 @@ fn thin_bundles_become_their_cases(rt: HostRuntime) -> Result<(), Fail> {
 #[test]
 fn other_bundles_are_refused_by_name(rt: HostRuntime) -> Result<(), Fail> {
     for (bundle, code, line) in REFUSED {
-        let ended = run_over(
-            rt.alloc(),
-            &["build", "bundle.json"],
-            &[("bundle.json", bundle.as_bytes())],
-            NEVER,
-            100,
-        )?;
-        assert_eq!(rt; ended.err.as_slice(), line.as_bytes(), "at {bundle}");
-        assert_eq!(rt; ended.out.as_slice(), b"".as_slice(), "at {bundle}");
-        assert_eq!(rt; ended.code, code, "at {bundle}");
+        let ended = run_build(rt.alloc(), bundle.as_bytes(), 100)?;
+        assert_ended(&rt, &ended, code, b"", line, bundle);
     }
-    let bytes = b"\xff{}".as_slice();
-    let ended = run_over(
-        rt.alloc(),
-        &["build", "bundle.json"],
-        &[("bundle.json", bytes)],
-        NEVER,
-        100,
-    )?;
-    assert_eq!(rt;
-        ended.err.as_slice(),
-        b"plcase: bundle rule B1 at document 0 0 0\n".as_slice()
-    );
+    Ok(())
+}
+
+#[test]
+fn bytes_that_are_no_text_are_no_bundle(rt: HostRuntime) -> Result<(), Fail> {
+    let ended = run_build(rt.alloc(), b"\xff{}", 100)?;
+    let line = "plcase: bundle rule B1 at document 0 0 0\n";
+    assert_ended(&rt, &ended, 3, b"", line, "no text");
     Ok(())
 }
 
@@ -294,41 +277,48 @@ const WORDS: [(&[&str], u8, &str); 30] = [
     ),
 ];
 
+/// Runs words after the program's name over the smallest files.
+fn run_words(alloc: Global, words: &[&str]) -> Result<Ended, Fail> {
+    run_over(
+        alloc,
+        words,
+        &[
+            ("bundle.json", SMALLEST.as_bytes()),
+            ("bundle.toml", SMALLEST.as_bytes()),
+            ("case.json", SMALLEST_CASE.as_bytes()),
+            ("chosen.json", b"{\"features\":[\"R\"]}"),
+            ("chosen.toml", b"features = [\"R\"]"),
+        ],
+        NEVER,
+        100,
+    )
+}
+
 #[test]
 fn words_are_taken_in_their_plain_form(rt: HostRuntime) -> Result<(), Fail> {
     for (words, code, line) in WORDS {
-        let ended = run_over(
-            rt.alloc(),
-            words,
-            &[
-                ("bundle.json", SMALLEST.as_bytes()),
-                ("bundle.toml", SMALLEST.as_bytes()),
-                ("case.json", SMALLEST_CASE.as_bytes()),
-                ("chosen.json", b"{\"features\":[\"R\"]}".as_slice()),
-                ("chosen.toml", b"features = [\"R\"]".as_slice()),
-            ],
-            NEVER,
-            100,
-        )?;
+        let ended = run_words(rt.alloc(), words)?;
         assert_eq!(rt; ended.err.as_slice(), line.as_bytes(), "at {words:?}");
         assert_eq!(rt; ended.code, code, "at {words:?}");
     }
     Ok(())
 }
 
-/// A bundle with so many features, and so many elements that stand under them in turn.
-fn bundle_of(alloc: Global, features: u32, elements: u32) -> Result<String, AllocError>
-    requires { 0 < features }
-{
-    let mut text = String::from_str(
-        alloc,
-        "{\"bundle\":1,\"title\":\"T\",\"line\":{\"features\":[{\"name\":\"F0\"}",
-    )?;
+/// The items of so many features, all below the first.
+fn features_of(alloc: Global, features: u32) -> Result<String, AllocError> {
+    let mut text = String::from_str(alloc, "{\"name\":\"F0\"}")?;
     for feature in 1..features {
         let item = format!(in alloc; ",{{\"name\":\"F{feature}\",\"parent\":\"F0\"}}")?;
         text.push_str(&item)?;
     }
-    text.push_str("]},\"model\":{\"types\":[{\"name\":\"N\"}],\"elements\":[")?;
+    Ok(text)
+}
+
+/// The items of so many elements, which stand under the features in turn.
+fn elements_of(alloc: Global, features: u32, elements: u32) -> Result<String, AllocError>
+    requires { 0 < features }
+{
+    let mut text = String::new(alloc);
     for element in 0..elements {
         let feature = element % features;
         let comma = if element == 0 { "" } else { "," };
@@ -337,9 +327,24 @@ fn bundle_of(alloc: Global, features: u32, elements: u32) -> Result<String, Allo
         )?;
         text.push_str(&item)?;
     }
-    text.push_str(
-        "]},\"templates\":[{\"name\":\"Top\",\"nodes\":[{\"id\":\"g\",\"kind\":\"goal\",\"text\":\"All\"},",
+    Ok(text)
+}
+
+/// A bundle with so many features, and so many elements that stand under them in turn.
+fn bundle_of(alloc: Global, features: u32, elements: u32) -> Result<String, AllocError>
+    requires { 0 < features }
+{
+    let line = features_of(alloc, features)?;
+    let model = elements_of(alloc, features, elements)?;
+    let mut text = String::from_str(
+        alloc,
+        "{\"bundle\":1,\"title\":\"T\",\"line\":{\"features\":[",
     )?;
+    text.push_str(&line)?;
+    text.push_str("]},\"model\":{\"types\":[{\"name\":\"N\"}],\"elements\":[")?;
+    text.push_str(&model)?;
+    text.push_str("]},\"templates\":[{\"name\":\"Top\",\"nodes\":[")?;
+    text.push_str("{\"id\":\"g\",\"kind\":\"goal\",\"text\":\"All\"},")?;
     text.push_str(
         "{\"id\":\"s\",\"kind\":\"strategy\",\"under\":\"g\",\"text\":\"Over {#}\",\"each\":\"n: N\"},",
     )?;
@@ -357,13 +362,7 @@ fn lines_and_models_end_at_their_limits(rt: HostRuntime) -> Result<(), Fail> {
     for (features, elements, code) in SIZES {
         assert!(rt; features > 0);
         let bundle = bundle_of(rt.alloc(), features, elements)?;
-        let ended = run_over(
-            rt.alloc(),
-            &["build", "bundle.json"],
-            &[("bundle.json", bundle.as_bytes())],
-            NEVER,
-            1_000_000,
-        )?;
+        let ended = run_build(rt.alloc(), bundle.as_bytes(), 1_000_000)?;
         assert_eq!(rt; ended.code, code, "at {features} {elements}");
         assert_eq!(rt; ended.out.is_empty(), code != 0, "at {features} {elements}");
     }

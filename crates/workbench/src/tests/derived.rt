@@ -1,6 +1,6 @@
 //! The texts that cases derive to, and those of products.
 
-use super::{MIXED, NEVER, ROW, SMALLEST, run_on, run_over};
+use super::{MIXED, ROW, SMALLEST, assert_ended, run_build, run_on};
 use std::test::Fail;
 
 /// Bundles and configurations, with the text of the product.
@@ -39,18 +39,15 @@ const TEXTS: [(&str, &str, &str); 6] = [
 
 #[test]
 fn a_case_derives_to_the_text_of_its_product(rt: HostRuntime) -> Result<(), Fail> {
-    let alloc = rt.alloc();
     for (bundle, chosen, text) in TEXTS {
-        let product = run_on(alloc, "product", bundle.as_bytes(), chosen.as_bytes())?;
-        assert_eq!(rt; product.err.as_slice(), b"".as_slice(), "at {chosen}");
-        assert_eq!(rt; product.out.as_slice(), text.as_bytes(), "at {chosen}");
-        assert_eq!(rt; product.code, 0, "at {chosen}");
-        let files = [("bundle.json", bundle.as_bytes())];
-        let built = run_over(alloc, &["build", "bundle.json"], &files, NEVER, 1_000)?;
-        let derived = run_on(alloc, "derive", &built.out, chosen.as_bytes())?;
-        assert_eq!(rt; derived.err.as_slice(), b"".as_slice(), "at {chosen}");
-        assert_eq!(rt; derived.out.as_slice(), text.as_bytes(), "at {chosen}");
-        assert_eq!(rt; derived.code, 0, "at {chosen}");
+        let built = run_build(rt.alloc(), bundle.as_bytes(), 1_000)?;
+        for (command, first) in [
+            ("derive", built.out.as_slice()),
+            ("product", bundle.as_bytes()),
+        ] {
+            let ended = run_on(rt.alloc(), command, first, chosen.as_bytes())?;
+            assert_ended(&rt, &ended, 0, text.as_bytes(), "", chosen);
+        }
     }
     Ok(())
 }
@@ -80,10 +77,8 @@ fn nodes_of_all_kinds_have_their_identifiers_counts_and_statuses(
     rt: HostRuntime,
 ) -> Result<(), Fail> {
     for (chosen, text) in KINDS_TEXTS {
-        let derived = run_on(rt.alloc(), "derive", KINDS.as_bytes(), chosen.as_bytes())?;
-        assert_eq!(rt; derived.err.as_slice(), b"".as_slice(), "at {chosen}");
-        assert_eq!(rt; derived.out.as_slice(), text.as_bytes(), "at {chosen}");
-        assert_eq!(rt; derived.code, 0, "at {chosen}");
+        let ended = run_on(rt.alloc(), "derive", KINDS.as_bytes(), chosen.as_bytes())?;
+        assert_ended(&rt, &ended, 0, text.as_bytes(), "", chosen);
     }
     Ok(())
 }

@@ -1,6 +1,8 @@
 //! Faults of reads and puts, and files past their limits.
 
-use super::{NEVER, NONE, SMALLEST, SMALLEST_CASE, run_over};
+use super::{Ended, NEVER, NONE, SMALLEST, SMALLEST_CASE, assert_ended, run_on, run_over};
+use std::alloc::Global;
+use std::process::Abort;
 use std::test::Fail;
 
 /// The configuration with the root alone.
@@ -8,9 +10,39 @@ const ROOT: &[u8] = b"{\"features\":[\"R\"]}";
 
 const TEXT: &str = "case T\nwith R\nG1 goal open\n  Safe\n";
 
-/// The numbers of the read, of the put on the output and of the put on the error output that fail, and what comes of it: the status, how many
-/// bytes of the case came through, and what was said. A put takes at most 10 bytes.
-const BUILD_FAULTS: [((u64, u64, u64), u8, usize, &str); 7] = [
+/// The numbers of the read, of the put on the output and of the put on the error output that fail.
+type Failing = (u64, u64, u64);
+
+/// Runs a command over a first file and a configuration, where calls fail and a put takes at most 10 bytes.
+fn run_failing(alloc: Global, command: &str, first: &str, failing: Failing) -> Result<Ended, Fail> {
+    run_over(
+        alloc,
+        &[command, "first.json", "chosen.json"],
+        &[("first.json", first.as_bytes()), ("chosen.json", ROOT)],
+        failing,
+        10,
+    )
+}
+
+/// A run ended in this status, with so many bytes of the whole answer and this line.
+fn assert_cut(
+    rt: &impl Abort,
+    ended: &Ended,
+    code: u8,
+    whole: &str,
+    through: usize,
+    line: &str,
+    at: Failing,
+) {
+    let whole = whole.as_bytes();
+    assert!(rt; through <= whole.len());
+    assert_eq!(rt; ended.code, code, "at {at:?}");
+    assert_eq!(rt; ended.out.as_slice(), &whole[..through], "at {at:?}");
+    assert_eq!(rt; ended.err.as_slice(), line.as_bytes(), "at {at:?}");
+}
+
+/// What fails, and what comes of it: the status, how many bytes of the case came through, and what was said.
+const BUILD_FAULTS: [(Failing, u8, usize, &str); 7] = [
     ((0, NONE, NONE), 13, 0, "plcase: file 0 not read\n"),
     ((1, NONE, NONE), 13, 0, "plcase: file 0 not read\n"),
     ((2, NONE, NONE), 0, 157, ""),
@@ -30,19 +62,13 @@ fn faults_of_a_build_have_their_status(rt: HostRuntime) -> Result<(), Fail> {
             failing,
             10,
         )?;
-        assert_eq!(rt; ended.code, code, "at {failing:?}");
-        assert_eq!(rt;
-            Some(ended.out.as_slice()),
-            SMALLEST_CASE.as_bytes().get(..through),
-            "at {failing:?}"
-        );
-        assert_eq!(rt; ended.err.as_slice(), line.as_bytes(), "at {failing:?}");
+        assert_cut(&rt, &ended, code, SMALLEST_CASE, through, line, failing);
     }
     Ok(())
 }
 
 /// The same of a command with two files, each of which takes two reads.
-const TEXT_FAULTS: [((u64, u64, u64), u8, usize, &str); 10] = [
+const TEXT_FAULTS: [(Failing, u8, usize, &str); 10] = [
     ((0, NONE, NONE), 13, 0, "plcase: file 0 not read\n"),
     ((1, NONE, NONE), 13, 0, "plcase: file 0 not read\n"),
     ((2, NONE, NONE), 13, 0, "plcase: file 1 not read\n"),
@@ -59,27 +85,33 @@ const TEXT_FAULTS: [((u64, u64, u64), u8, usize, &str); 10] = [
 fn faults_of_two_files_have_their_status(rt: HostRuntime) -> Result<(), Fail> {
     for (failing, code, through, line) in TEXT_FAULTS {
         for (command, first) in [("derive", SMALLEST_CASE), ("product", SMALLEST)] {
-            let ended = run_over(
-                rt.alloc(),
-                &[command, "first.json", "chosen.json"],
-                &[("first.json", first.as_bytes()), ("chosen.json", ROOT)],
-                failing,
-                10,
-            )?;
-            assert_eq!(rt; ended.code, code, "at {command} {failing:?}");
-            assert_eq!(rt;
-                Some(ended.out.as_slice()),
-                TEXT.as_bytes().get(..through),
-                "at {command} {failing:?}"
-            );
-            assert_eq!(rt;
-                ended.err.as_slice(),
-                line.as_bytes(),
-                "at {command} {failing:?}"
-            );
+            let ended = run_failing(rt.alloc(), command, first, failing)?;
+            assert_cut(&rt, &ended, code, TEXT, through, line, failing);
         }
     }
     Ok(())
+}
+
+/// So many spaces.
+fn spaces(alloc: Global, count: usize) -> Result<Vec<u8>, Fail> {
+    let mut bytes = Vec::with_capacity(alloc, count)?;
+    bytes.resize(count, b' ')?;
+    Ok(bytes)
+}
+
+/// Runs a command over files of these sizes.
+fn run_long(alloc: Global, command: &str, first: usize, second: usize) -> Result<Ended, Fail> {
+    let bytes = spaces(alloc, first)?;
+    let chosen = spaces(alloc, second)?;
+    let words = [command, "first.json", "chosen.json"];
+    let count = if command == "build" { 2 } else { 3 };
+    run_over(
+        alloc,
+        &words[..count],
+        &[("first.json", &bytes), ("chosen.json", &chosen)],
+        NEVER,
+        100,
+    )
 }
 
 /// Commands with the sizes of their first file and their configuration, and the number of the file that is too long.
@@ -104,26 +136,8 @@ const LENGTHS: [(&str, usize, usize, &str); 5] = [
 #[test]
 fn files_past_their_limits_are_too_long(rt: HostRuntime) -> Result<(), Fail> {
     for (command, first, second, line) in LENGTHS {
-        let mut bytes = Vec::with_capacity(rt.alloc(), first)?;
-        bytes.resize(first, b' ')?;
-        let mut chosen = Vec::with_capacity(rt.alloc(), second)?;
-        chosen.resize(second, b' ')?;
-        let words = [command, "first.json", "chosen.json"];
-        let count = if command == "build" { 2 } else { 3 };
-        let ended = run_over(
-            rt.alloc(),
-            &words[..count],
-            &[("first.json", &bytes), ("chosen.json", &chosen)],
-            NEVER,
-            100,
-        )?;
-        assert_eq!(rt;
-            ended.err.as_slice(),
-            line.as_bytes(),
-            "at {first} {second}"
-        );
-        assert_eq!(rt; ended.out.as_slice(), b"".as_slice(), "at {first} {second}");
-        assert_eq!(rt; ended.code, 12, "at {first} {second}");
+        let ended = run_long(rt.alloc(), command, first, second)?;
+        assert_ended(&rt, &ended, 12, b"", line, command);
     }
     Ok(())
 }
@@ -133,17 +147,7 @@ fn files_past_their_limits_are_too_long(rt: HostRuntime) -> Result<(), Fail> {
 fn a_configuration_may_fill_its_limit(rt: HostRuntime) -> Result<(), Fail> {
     let mut chosen = ROOT.to_vec(rt.alloc())?;
     chosen.resize(1_048_576, b' ')?;
-    let ended = run_over(
-        rt.alloc(),
-        &["derive", "case.json", "chosen.json"],
-        &[
-            ("case.json", SMALLEST_CASE.as_bytes()),
-            ("chosen.json", &chosen),
-        ],
-        NEVER,
-        100,
-    )?;
-    assert_eq!(rt; ended.out.as_slice(), TEXT.as_bytes());
-    assert_eq!(rt; ended.code, 0);
+    let ended = run_on(rt.alloc(), "derive", SMALLEST_CASE.as_bytes(), &chosen)?;
+    assert_ended(&rt, &ended, 0, TEXT.as_bytes(), "", "the limit");
     Ok(())
 }

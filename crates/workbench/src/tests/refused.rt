@@ -1,6 +1,6 @@
 //! What is refused after the files were read: nothing is written, and the first refusal is said.
 
-use super::{NEVER, ROW, SMALLEST, run_on, run_over};
+use super::{ROW, SMALLEST, assert_ended, run_build, run_on};
 use std::test::Fail;
 
 /// Bundles and configurations for which neither the bundle nor its case has a text.
@@ -62,18 +62,15 @@ const CONFIGURATIONS: [(&str, &str, u8, &str); 13] = [
 
 #[test]
 fn derive_and_product_refuse_the_same_configurations(rt: HostRuntime) -> Result<(), Fail> {
-    let alloc = rt.alloc();
     for (bundle, chosen, code, line) in CONFIGURATIONS {
-        let product = run_on(alloc, "product", bundle.as_bytes(), chosen.as_bytes())?;
-        assert_eq!(rt; product.err.as_slice(), line.as_bytes(), "at {chosen}");
-        assert_eq!(rt; product.out.as_slice(), b"".as_slice(), "at {chosen}");
-        assert_eq!(rt; product.code, code, "at {chosen}");
-        let files = [("bundle.json", bundle.as_bytes())];
-        let built = run_over(alloc, &["build", "bundle.json"], &files, NEVER, 1_000)?;
-        let derived = run_on(alloc, "derive", &built.out, chosen.as_bytes())?;
-        assert_eq!(rt; derived.err.as_slice(), line.as_bytes(), "at {chosen}");
-        assert_eq!(rt; derived.out.as_slice(), b"".as_slice(), "at {chosen}");
-        assert_eq!(rt; derived.code, code, "at {chosen}");
+        let built = run_build(rt.alloc(), bundle.as_bytes(), 1_000)?;
+        for (command, first) in [
+            ("derive", built.out.as_slice()),
+            ("product", bundle.as_bytes()),
+        ] {
+            let ended = run_on(rt.alloc(), command, first, chosen.as_bytes())?;
+            assert_ended(&rt, &ended, code, b"", line, chosen);
+        }
     }
     Ok(())
 }
@@ -132,9 +129,7 @@ const CASES: [(&str, &str); 13] = [
 fn faults_of_cases_come_before_those_of_configurations(rt: HostRuntime) -> Result<(), Fail> {
     for (case, line) in CASES {
         let ended = run_on(rt.alloc(), "derive", case.as_bytes(), b"{")?;
-        assert_eq!(rt; ended.err.as_slice(), line.as_bytes(), "at {case}");
-        assert_eq!(rt; ended.out.as_slice(), b"".as_slice(), "at {case}");
-        assert_eq!(rt; ended.code, 6, "at {case}");
+        assert_ended(&rt, &ended, 6, b"", line, case);
     }
     Ok(())
 }
@@ -154,9 +149,7 @@ const BUNDLES: [(&str, u8, &str); 3] = [
 fn faults_of_bundles_come_before_those_of_configurations(rt: HostRuntime) -> Result<(), Fail> {
     for (bundle, code, line) in BUNDLES {
         let ended = run_on(rt.alloc(), "product", bundle.as_bytes(), b"{")?;
-        assert_eq!(rt; ended.err.as_slice(), line.as_bytes(), "at {bundle}");
-        assert_eq!(rt; ended.out.as_slice(), b"".as_slice(), "at {bundle}");
-        assert_eq!(rt; ended.code, code, "at {bundle}");
+        assert_ended(&rt, &ended, code, b"", line, bundle);
     }
     Ok(())
 }

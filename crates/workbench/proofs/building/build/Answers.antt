@@ -1,13 +1,35 @@
+use Rattle.std.proofs.lemmas.Result.{IfOk-weaker, IfErr-weaker}
 use Rattle.doc_tree.specs.View.{document}
-use Rattle.meaning.specs.Answers.{Prints}
+use Rattle.meaning.specs.Words.{Build}
+use Rattle.meaning.specs.Answers.{Prints, IsAnswer, IsBuildAnswer, ShowsCase}
+use Rattle.meaning.specs.Derivation.{bundle_of}
+use Rattle.std.proofs.Common.{[], ◌∷◌}
+use Rattle.workbench.specs.BuildingStage.{building_cases}
+use Rattle.workbench.specs.Limits.{diagrams_of}
+use Rattle.workbench.specs.Run.{StopsBuilding}
 use Rattle.workbench.proofs.Exits.{stops_with}
-use Rattle.workbench.proofs.BuildAnswers.{build_answered, build_refused}
+use Rattle.workbench.proofs.BuildAnswers.{build_answered, bundle_stops, building_stops, shut_is_opened}
 use Rattle.workbench.proofs.building.build.Goals as goal
 
-pub returns-in_err-bundle-clause-refused : goal.returns-in_err-bundle-clause-refused
-returns-in_err-bundle-clause-refused c =
-    stops_with _ _ _ c.from_residual.ensures.1 (build_refused c.args.name.now c.args.bytes.now _ c.in_err-bundle.ensures.stopped)
+pub returns-in_err-bundle-clause-stopped : goal.returns-in_err-bundle-clause-stopped
+returns-in_err-bundle-clause-stopped c =
+    stops_with _ _ _ c.from_residual.ensures.1
+    (bundle_stops c.args.name.now c.args.bytes.now c.args.limit (diagrams_of c.args.d.now) (diagrams_of c.args.d.now) _ c.in_err-bundle.ensures.stopped)
+
+pub returns-in_err-bundle-clause-opened : goal.returns-in_err-bundle-clause-opened
+returns-in_err-bundle-clause-opened c = shut_is_opened c.args.limit c.args.d.now c.requires.shut
 
 pub returns-clause-built : goal.returns-clause-built
 returns-clause-built c =
-    build_answered c.args.name.now c.args.bytes.now (document c.in_ok-bundle.bundle) (Prints c.in_ok-case.case.items) c.in_ok-bundle.ensures.good c.in_ok-case.ensures
+    let d = document c.in_ok-bundle.bundle in
+    IfOk-weaker c.build_bundle.result (λ v. IsBuildAnswer building_cases (bundle_of d) ShowsCase (Prints v.items)) (λ v. IsAnswer building_cases (Build c.args.name.now) (c.args.bytes.now ∷ []) (Prints v.items))
+    (λ v h. build_answered c.args.name.now c.args.bytes.now d (Prints v.items) c.in_ok-bundle.ensures.good h) c.build_bundle.ensures.built
+
+pub returns-clause-stopped : goal.returns-clause-stopped
+returns-clause-stopped c =
+    let d = document c.in_ok-bundle.bundle in
+    let old = diagrams_of c.args.d.now in
+    let new = diagrams_of c.build_bundle.new.d in
+    IfErr-weaker c.build_bundle.result (StopsBuilding c.args.limit old new (IsBuildAnswer building_cases (bundle_of d) ShowsCase))
+    (StopsBuilding c.args.limit old new (IsAnswer building_cases (Build c.args.name.now) (c.args.bytes.now ∷ [])))
+    (λ s h. building_stops c.args.name.now c.args.bytes.now c.args.limit old new d s c.in_ok-bundle.ensures.good h) c.build_bundle.ensures.stopped

@@ -1,9 +1,9 @@
-use Rattle.std.proofs.Common.{◌≡◌, sym, subst, List, Bool}
+use Rattle.std.proofs.Common.{◌≡◌, sym, subst}
 use Rattle.std.proofs.lemmas.Result.{IfOk-weaker, IfErr-weaker}
 use Rattle.meaning.specs.Answers.{Prints, of_derivation, configured, is_unread}
 use Rattle.meaning.specs.Derivation.{derived_at}
 use Rattle.lifted_case.specs.CaseView.{case_document_of_read}
-use Rattle.workbench.specs.DerivingStage.{deriving_cases}
+use Rattle.workbench.specs.BuildingStage.{building_cases}
 use Rattle.workbench.specs.Run.{Refuses}
 use Rattle.workbench.specs.Readings.{IsWorldOf, AnswersDerive}
 use Rattle.workbench.proofs.Exits.{stops_with}
@@ -25,7 +25,7 @@ returns-clause-derived c =
     let k = case_document_of_read c.in_ok-case.case in
     let name = c.args.name.now in
     let chosen = c.args.chosen.now in
-    let i = subst (λ w. IsWorldOf (is_unread deriving_cases name) (configured k.features name chosen) w) (sym c.list.ensures) c.in_ok-world.ensures.world in
+    let i = subst (λ w. IsWorldOf (is_unread building_cases name) (configured k.features name chosen) w) (sym c.list.ensures) c.in_ok-world.ensures.world in
     IfOk-weaker c.derived_text.result (λ v. of_derivation (derived_at k c.list.result.now) ≡ Prints v.items) (λ v. AnswersDerive c.args.bytes.now name chosen (Prints v.items))
     (λ v h. derive_answered c.args.bytes.now name chosen k c.list.result.now (Prints v.items) c.in_ok-case.ensures.ok i h) c.derived_text.ensures.derived
 
@@ -34,6 +34,6 @@ returns-clause-refused c =
     let k = case_document_of_read c.in_ok-case.case in
     let name = c.args.name.now in
     let chosen = c.args.chosen.now in
-    let i = subst (λ w. IsWorldOf (is_unread deriving_cases name) (configured k.features name chosen) w) (sym c.list.ensures) c.in_ok-world.ensures.world in
+    let i = subst (λ w. IsWorldOf (is_unread building_cases name) (configured k.features name chosen) w) (sym c.list.ensures) c.in_ok-world.ensures.world in
     IfErr-weaker c.derived_text.result (Refuses (λ a. of_derivation (derived_at k c.list.result.now) ≡ a)) (Refuses (AnswersDerive c.args.bytes.now name chosen))
     (λ s h. derive_refused c.args.bytes.now name chosen k c.list.result.now s c.in_ok-case.ensures.ok i h) c.derived_text.ensures.refused

@@ -1,5 +1,5 @@
 use Rattle.std.proofs.Common.{[], ◌∷◌}
-use Rattle.workbench.specs.Run.{shelf_of, file_of, StopsFiles}
+use Rattle.workbench.specs.Run.{file_of}
 use Rattle.workbench.proofs.Exits.{stops_with}
 use Rattle.workbench.proofs.FileReads.{first_stops, second_stops}
 use Rattle.workbench.proofs.files.read_two_files.Goals as goal

@@ -1,4 +1,4 @@
-use Rattle.std.proofs.Common.{◌≡◌, sym, ◌∙◌, subst, ℕ, List, Some}
+use Rattle.std.proofs.Common.{◌≡◌, subst, ℕ, List, Some}
 use Rattle.meaning.specs.Texts.{place_of}
 use Rattle.workbench.proofs.NewNames.{new_has_no_place}
 use Rattle.workbench.proofs.product_text.names_of.Goals as goal

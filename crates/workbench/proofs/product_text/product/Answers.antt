@@ -3,7 +3,7 @@ use Rattle.std.proofs.lemmas.Result.{IfOk-weaker, IfErr-weaker}
 use Rattle.meaning.specs.Words.{Product}
 use Rattle.meaning.specs.Answers.{Prints, IsAnswer}
 use Rattle.doc_tree.specs.View.{document}
-use Rattle.workbench.specs.DerivingStage.{deriving_cases}
+use Rattle.workbench.specs.BuildingStage.{building_cases}
 use Rattle.workbench.specs.Run.{Refuses}
 use Rattle.workbench.specs.Readings.{AnswersProduct}
 use Rattle.workbench.proofs.Exits.{stops_with}
@@ -23,7 +23,7 @@ returns-clause-text c =
     let name = c.args.name.now in
     let chosen = c.args.chosen.now in
     IfOk-weaker c.product_of.result (λ v. AnswersProduct d name chosen (Prints v.items))
-    (λ v. IsAnswer deriving_cases (Product bundle name) (bytes ∷ chosen ∷ []) (Prints v.items))
+    (λ v. IsAnswer building_cases (Product bundle name) (bytes ∷ chosen ∷ []) (Prints v.items))
     (λ v h. product_answered bundle bytes name chosen d (Prints v.items) c.in_ok-bundle.ensures.good h) c.product_of.ensures.text
 
 pub returns-clause-refused : goal.returns-clause-refused
@@ -33,5 +33,5 @@ returns-clause-refused c =
     let bytes = c.args.bytes.now in
     let name = c.args.name.now in
     let chosen = c.args.chosen.now in
-    IfErr-weaker c.product_of.result (Refuses (AnswersProduct d name chosen)) (Refuses (IsAnswer deriving_cases (Product bundle name) (bytes ∷ chosen ∷ [])))
+    IfErr-weaker c.product_of.result (Refuses (AnswersProduct d name chosen)) (Refuses (IsAnswer building_cases (Product bundle name) (bytes ∷ chosen ∷ [])))
     (λ s h. product_refused bundle bytes name chosen d s c.in_ok-bundle.ensures.good h) c.product_of.ensures.refused

@@ -1,7 +1,7 @@
-use Rattle.std.proofs.Common.{sym, ap, ◌∙◌, refl, []}
+use Rattle.std.proofs.Common.{sym, ap, ◌∙◌, []}
 use Rattle.meaning.specs.CaseFiles.{cut}
 use Rattle.gsn.specs.View.{case_of}
-use Rattle.lifted_case.specs.View.{case_document}
+use Rattle.workbench.specs.ThinView.{case_document}
 use Rattle.case_derive.specs.Keys.{unkeyed}
 use Rattle.workbench.proofs.TextAnswers.{derived_is, not_derived}
 use Rattle.workbench.proofs.ThinCuts.{root_decides, thin_cut, own_title, own_features}

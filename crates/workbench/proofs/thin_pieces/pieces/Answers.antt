@@ -2,8 +2,8 @@ use Rattle.std.proofs.Common.{[], ◌∷◌, ◌++◌, Some, None, ap, map, ◌�
 use Rattle.std.specs.Option.{option_copied}
 use Rattle.std.proofs.lemmas.Str.Pattern.{split_parts}
 use Rattle.meaning.specs.Templates.{joined_parts}
-use Rattle.lifted_case.specs.declared.thin.ThinPart.TheVariants as part
-use Rattle.lifted_case.specs.View.{part_of}
+use Rattle.workbench.specs.declared.thin_data.ThinPart.TheVariants as part
+use Rattle.workbench.specs.ThinView.{part_of}
 use Rattle.workbench.specs.ThinParts.{pieces_for}
 use Rattle.workbench.proofs.ThinPieces.{rest_has_hole, next_pieces, last_piece}
 use Rattle.workbench.proofs.thin_pieces.pieces.Goals as goal

@@ -4,7 +4,7 @@ use denote.Text.{Utf8}
 use Rattle.std.specs.Option.{option_copied}
 use Rattle.meaning.specs.Templates.{joined_parts}
 use Rattle.meaning.specs.StrategyTests.{segments_of}
-use Rattle.lifted_case.specs.View.{part_of}
+use Rattle.workbench.specs.ThinView.{part_of}
 use Rattle.workbench.specs.ThinParts.{HasOneHole, piece_for, pieces_for}
 use Rattle.workbench.proofs.thin_pieces.pieces.Given as goal
 

@@ -1,5 +1,5 @@
 use Rattle.std.proofs.Common.{◌≡◌, map, take}
-use Rattle.lifted_case.specs.View.{part_of}
+use Rattle.workbench.specs.ThinView.{part_of}
 use Rattle.lifted_case.specs.CaseView.{case_part_of}
 use Rattle.workbench.proofs.thin_world.parts.Given as goal
 

@@ -4,31 +4,57 @@ use Rattle.std.proofs.lemmas.Result.{IfOk-weaker, IfErr-weaker}
 use Rattle.meaning.specs.Answers.{Prints}
 use Rattle.meaning.specs.TopCall.{Answered}
 use Rattle.workbench.specs.WordsView.{task_view, invocation_view}
-use Rattle.workbench.specs.DerivingStage.{deriving_cases}
+use Rattle.workbench.specs.BuildingStage.{building_cases}
+use Rattle.workbench.specs.Limits.{diagrams_of}
 use Rattle.workbench.specs.Run.{shelf_of, AnswersTask, StopsTask, Stops}
 use Rattle.workbench.proofs.CommandLines.{known_words}
-use Rattle.workbench.proofs.TopCauses.{words_answered, words_stop}
+use Rattle.workbench.proofs.BuildAnswers.{is_shut}
+use Rattle.workbench.proofs.TopCauses.{words_answered, words_stop, words_opened, words_left_shut, unread_opened}
 use Rattle.workbench.proofs.top.answer.Goals as goal
 
 pub returns-in-Some-clause-answered : goal.returns-in-Some-clause-answered
 returns-in-Some-clause-answered g c =
     let words = map string_bytes c.args.words.now in
-    let reads = known_words words ∙ sym c.read_words.ensures ∙ ap (option_map invocation_view) c.in-Some.is in
+    let reads = known_words words ∙ sym c.read_words.ensures.words ∙ ap (option_map invocation_view) c.in-Some.is in
     let before = shelf_of (g.F.Shelf.holds c.args.shelf.now) (g.F.Shelf.faults c.args.shelf.now) (g.F.Shelf.next c.args.shelf.now) (g.F.Shelf.given c.args.shelf.now) in
     let task = task_view c.in-Some.invocation.task in
-    IfOk-weaker c.answer_task.result (λ v. AnswersTask task before (Prints v.items)) (λ v. Answered deriving_cases words before (Prints v.items))
-    (λ v h. words_answered words before before task c.in-Some.invocation.node_limit reads (Prints v.items) h) c.answer_task.ensures.answered
+    IfOk-weaker c.answer_task.result (λ v. AnswersTask task before (Prints v.items)) (λ v. Answered building_cases words before (Prints v.items))
+    (λ v h. words_answered words before before task c.in-Some.invocation.node_limit (diagrams_of c.args.d.now) (diagrams_of c.args.d.now) reads (Prints v.items) h) c.answer_task.ensures.answered
 
 pub returns-in-Some-clause-stopped : goal.returns-in-Some-clause-stopped
 returns-in-Some-clause-stopped g c =
     let words = map string_bytes c.args.words.now in
-    let reads = known_words words ∙ sym c.read_words.ensures ∙ ap (option_map invocation_view) c.in-Some.is in
+    let reads = known_words words ∙ sym c.read_words.ensures.words ∙ ap (option_map invocation_view) c.in-Some.is in
     let before = shelf_of (g.F.Shelf.holds c.args.shelf.now) (g.F.Shelf.faults c.args.shelf.now) (g.F.Shelf.next c.args.shelf.now) (g.F.Shelf.given c.args.shelf.now) in
     let after = shelf_of (g.F.Shelf.holds c.answer_task.new.shelf) (g.F.Shelf.faults c.answer_task.new.shelf) (g.F.Shelf.next c.answer_task.new.shelf) (g.F.Shelf.given c.answer_task.new.shelf) in
     let task = task_view c.in-Some.invocation.task in
-    IfErr-weaker c.answer_task.result (StopsTask task before after) (Stops words before after)
-    (λ s h. words_stop words before after task c.in-Some.invocation.node_limit reads s h) c.answer_task.ensures.stopped
+    let old = diagrams_of c.args.d.now in
+    let new = diagrams_of c.answer_task.new.d in
+    IfErr-weaker c.answer_task.result (StopsTask task c.in-Some.invocation.node_limit before after old new) (Stops words before after old new)
+    (λ s h. words_stop words before after task c.in-Some.invocation.node_limit old new reads s h) c.answer_task.ensures.stopped
+
+pub returns-in-Some-clause-opened : goal.returns-in-Some-clause-opened
+returns-in-Some-clause-opened g c =
+    let words = map string_bytes c.args.words.now in
+    let reads = known_words words ∙ sym c.read_words.ensures.words ∙ ap (option_map invocation_view) c.in-Some.is in
+    let before = shelf_of (g.F.Shelf.holds c.args.shelf.now) (g.F.Shelf.faults c.args.shelf.now) (g.F.Shelf.next c.args.shelf.now) (g.F.Shelf.given c.args.shelf.now) in
+    words_opened words before before (task_view c.in-Some.invocation.task) c.in-Some.invocation.node_limit (diagrams_of c.args.d.now) (diagrams_of c.answer_task.new.d) reads
+    c.answer_task.ensures.opened
+
+pub returns-in-Some-clause-shut : goal.returns-in-Some-clause-shut
+returns-in-Some-clause-shut g c =
+    let words = map string_bytes c.args.words.now in
+    let reads = known_words words ∙ sym c.read_words.ensures.words ∙ ap (option_map invocation_view) c.in-Some.is in
+    let before = shelf_of (g.F.Shelf.holds c.args.shelf.now) (g.F.Shelf.faults c.args.shelf.now) (g.F.Shelf.next c.args.shelf.now) (g.F.Shelf.given c.args.shelf.now) in
+    words_left_shut words before before (task_view c.in-Some.invocation.task) c.in-Some.invocation.node_limit (diagrams_of c.args.d.now) (diagrams_of c.answer_task.new.d) reads
+    c.answer_task.ensures.left_shut
+
+pub returns-in-None-clause-opened : goal.returns-in-None-clause-opened
+returns-in-None-clause-opened g c = unread_opened (map string_bytes c.args.words.now) (diagrams_of c.args.d.now) (is_shut c.args.d.now c.requires)
+
+pub returns-in-None-clause-shut : goal.returns-in-None-clause-shut
+returns-in-None-clause-shut g c = λ i reads plain. is_shut c.args.d.now c.requires
 
 pub returns-in-None-clause-stopped : goal.returns-in-None-clause-stopped
 returns-in-None-clause-stopped g c =
-    record { unread = known_words (map string_bytes c.args.words.now) ∙ sym c.read_words.ensures ∙ ap (option_map invocation_view) c.in-None.is }
+    record { unread = known_words (map string_bytes c.args.words.now) ∙ sym c.read_words.ensures.words ∙ ap (option_map invocation_view) c.in-None.is }
