@@ -1,0 +1,9 @@
+pub mod OrderedTemplates
+pub mod Lifting
+pub mod ThereElements
+pub mod KeySteps
+pub mod RootedTrees
+pub mod LiftedCases
+pub mod ScopedTemplates
+pub mod WorldLifting
+pub mod CaseCounts
