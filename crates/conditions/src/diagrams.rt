@@ -6,6 +6,7 @@ ghost use Rattle.meaning.specs.Texts.{holds_at};
 ghost use Rattle.meaning.specs.Counts.{counted};
 ghost use Rattle.meaning.specs.Reports.{IsLeast};
 ghost use Rattle.worlds.specs.Algebra.{Kept, HoldsWhere, HoldsNowhere, HoldAlike, IsRefusal, has, refusals_after};
+ghost use Rattle.node_pool.specs.Regions.{IsRegion};
 ghost use Rattle.node_pool.specs.Functions.{function_of};
 ghost use Rattle.conditions.specs.Questions.{IsAsked};
 ghost use Rattle.conditions.specs.Store.{no_region};
@@ -94,7 +95,8 @@ impl Diagrams {
 
     /// How many nodes there are.
     pub fn used(&self) -> u32
-        ensures { result ≡ length self.now.region.nodes }
+        ensures value { result ≡ length self.now.region.nodes }
+        ensures region { IsRegion self.now.region }
     {
         self.store.used()
     }
