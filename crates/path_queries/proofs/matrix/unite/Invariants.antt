@@ -1,0 +1,12 @@
+use Rattle.worlds.specs.Algebra.{Worked}
+use Rattle.path_queries.specs.Relations.{united}
+use Rattle.path_queries.specs.Matrices.{relation_at, FilledWhere}
+use Rattle.path_queries.proofs.matrix.unite.Given as goal
+
+abbrev pub invariant-loop-place : goal.invariant-loop-place
+invariant-loop-place g l =
+    let algebra = g.W.Worlds.algebra in
+    record {
+      worked : Worked l.place (algebra l.fn.w) (algebra l.w);
+      filled : FilledWhere (algebra l.w) l.n l.place l.cells.items (λ x. united (relation_at (algebra l.fn.w) l.n l.a x) (relation_at (algebra l.fn.w) l.n l.b x));
+    }

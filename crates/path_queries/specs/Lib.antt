@@ -1,0 +1,15 @@
+pub mod View
+pub mod Answering
+pub mod Tokens
+pub mod Lexing
+pub mod Signs
+pub mod Stops
+pub mod Lookups
+pub mod PathReading
+pub mod ConstraintReading
+pub mod VariableReading
+pub mod Presence
+pub mod Relations
+pub mod Matrices
+pub mod Tuples
+pub mod Searching
