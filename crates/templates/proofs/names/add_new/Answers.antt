@@ -1,0 +1,13 @@
+use Rattle.std.proofs.Common.{◌≡◌, sym, ap, ◌∙◌, true, Some}
+use Rattle.std.specs.Prelude.{is_some}
+use Rattle.meaning.specs.Texts.{place_of}
+use Rattle.meaning.specs.BundlePlaces.{is_among}
+use Rattle.meaning.proofs.StrategyRules.{some_place}
+use Rattle.templates.proofs.names.add_new.Goals as goal
+
+pub unreachable-requires : goal.unreachable-requires
+unreachable-requires c =
+    let there : place_of c.args.name.now c.args.names.now ≡ Some c.in-Err-Repeated.field-0-0 = rw c.in-Err-Repeated.field-0-is at c.in-Err-Repeated.ensures.stop in
+    let among : is_among c.args.names.now c.args.name.now ≡ true = sym (some_place c.args.names.now c.args.name.now) ∙ ap is_some there in
+    let new = c.requires.new in
+    cc

@@ -1,0 +1,17 @@
+pub mod View
+pub mod Faults
+pub mod TextReading
+pub mod HoleStops
+pub mod TextSoFar
+pub mod ListRules
+pub mod NodeWords
+pub mod NodeRules
+pub mod Marks
+pub mod QueryReads
+pub mod CheckReads
+pub mod UseReads
+pub mod Readers
+pub mod ScopeReads
+pub mod Seen
+pub mod Wholes
+pub mod PathCode
