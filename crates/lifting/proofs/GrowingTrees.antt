@@ -15,7 +15,7 @@ module _ {A : Type 0} (kind : A → NodeKind) where
       ∙ ap (λ i. links_below kind (k + length t.nodes) ts ++ links_below kind i us) (omega (arith, length-append t.nodes (nodes_of ts))))
       ∙ sym (append_assoc (link_down kind k t.nodes ++ map (moved k) t.relations) (links_below kind (k + length t.nodes) ts) (links_below kind (k + length (t.nodes ++ nodes_of ts)) us))
 
-  moved_twice : (p k : ℕ) (rs : List Relation) → map (moved p) (map (moved k) rs) ≡ map (moved (p + k)) rs
+  pub moved_twice : (p k : ℕ) (rs : List Relation) → map (moved p) (map (moved k) rs) ≡ map (moved (p + k)) rs
   moved_twice p k [] = refl
   moved_twice p k (r ∷ rs) =
       let e : p + (k + r.source) ≡ (p + k) + r.source = omega arith in

@@ -3,19 +3,17 @@ use Rattle.std.proofs.Common.{◌≡◌, ◌≢◌, List, map, length, Bool, Som
 use Rattle.std.specs.Prelude.{cond, filter, find, bytes_eq, IsTrue}
 use Rattle.std.proofs.lemmas.List.{length-map}
 use Rattle.meaning.specs.Features.{is_valid}
-use Rattle.meaning.specs.Cases.{Node, Case}
-use Rattle.meaning.specs.CaseFiles.{CaseDocument, cut, node_at_world}
+use Rattle.meaning.specs.CaseFiles.{CaseDocument, holds, cut}
 use Rattle.meaning.specs.Derivation.{Bundle, case_at}
-use Rattle.meaning.specs.Tidy.{instance_at, node_with_key}
-use Rattle.meaning.proofs.CutTrees.{Each, cut_tree, tree_map}
-use Rattle.meaning.proofs.CutCases.{as_case, case_tree, is_node_there, plain_relation, IsImplied, cut_is_tree, implied_by_target}
-use Rattle.meaning.proofs.ThinModels.{each_by, map_of_map}
+use Rattle.meaning.specs.Tidy.{instance_at, node_with_key, presence_of}
+use Rattle.meaning.proofs.CutTrees.{Each}
+use Rattle.meaning.proofs.ThinModels.{each_by}
 use Rattle.meaning.proofs.ThinTidy.{valid_is_long}
 use Rattle.meaning.proofs.ThinNodes.{each_from_members}
 use Rattle.lifting.specs.Lifting.{key_seen}
-use Rattle.lifting.specs.LiftedCases.{Noted, there_in, seen_in, noted_tree, IsLiftedCase}
+use Rattle.lifting.specs.LiftedCases.{there_in, seen_in, IsLiftedCase}
 use Rattle.lifting.proofs.Pairs.{Pairwise}
-use Rattle.lifting.proofs.MappedTrees.{cut_mapped}
+use Rattle.lifting.proofs.CutInstances.{cut_is_instance}
 use Rattle.lifting.proofs.FoundNodes.{IsFoundWhereThere, each_found_there}
 
 module _ (k : CaseDocument) (b : Bundle) (h : IsLiftedCase k b) where
@@ -23,27 +21,12 @@ module _ (k : CaseDocument) (b : Bundle) (h : IsLiftedCase k b) where
   pub valid_worlds_fit : (w : List Bool) → IsTrue (is_valid b.line w) → length w ≡ length k.features
   valid_worlds_fit w v = valid_is_long b.line w v ∙ sym (length-map b.line.features (λ f. f.name)) ∙ ap length (sym h.features)
 
-  noted_is : case_tree k ≡ tree_map (λ n. n.0) (noted_tree k h.notes)
-  noted_is = ap (λ ns. record { nodes = ns; relations = map plain_relation k.relations }) (sym h.of_nodes)
-
   module _ (w : List Bool) (v : IsTrue (is_valid b.line w)) where
-    implied : Each (IsImplied k w) k.relations
-    implied = each_from_members (IsImplied k w) k.relations (λ r c. implied_by_target k w r (h.relations_with_targets r c w (valid_worlds_fit w v)))
-
     pub cut_is_case : cut k w ≡ case_at b w
     unfolding case_at
     cut_is_case =
-        cut_is_tree k w implied
-        ∙ ap (λ t. as_case (tree_map (node_at_world k w) (cut_tree (is_node_there k w) t))) noted_is
-        ∙ ap (λ t. as_case (tree_map (node_at_world k w) t)) (cut_mapped (is_node_there k w) (λ n. n.0) (noted_tree k h.notes))
-        ∙ ap (λ ns. of_both ns) (map_of_map (node_at_world k w) (λ n. n.0) there ∙ sym (map_of_map (λ s. s.0) (seen_in k w) there))
-        ∙ ap (λ t. as_case (tree_map (λ s. s.0) t)) (h.lifts w v).cuts
-      where
-        there : List Noted
-        there = filter (there_in k w) h.notes
-
-        of_both : List Node → Case
-        of_both ns = record { nodes = ns; relations = (cut_tree (there_in k w) (noted_tree k h.notes)).relations }
+        cut_is_instance k w h.notes h.of_nodes (instance_at b w)
+        (each_from_members (λ r. holds k w r.presence ≡ holds k w (presence_of k r.target)) k.relations (λ r c. h.relations_with_targets r c w (valid_worlds_fit w v))) (h.lifts w v)
 
     instance_nodes : (instance_at b w).nodes ≡ map (seen_in k w) (filter (there_in k w) h.notes)
     instance_nodes = sym (ap (λ t. t.nodes) (h.lifts w v).cuts)

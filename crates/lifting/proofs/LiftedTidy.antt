@@ -17,12 +17,7 @@ use Rattle.lifting.proofs.AmongLists.{among_pairs}
 use Rattle.lifting.proofs.KeysDiffer.{AreFew, possible_keys_under}
 use Rattle.lifting.proofs.LiftedNotes.{tidy_node}
 use Rattle.lifting.proofs.LiftedCuts.{cut_is_case, found_in_product}
-use Rattle.lifting.proofs.Lists.{each_two}
-
--- at each of many, for each element: for each element, at each
-each_for_all : {A W : Type 0} (Q : W → A → Type 0) (xs : List A) → ((w : W) → Each (Q w) xs) → Each (λ x. (w : W) → Q w x) xs
-each_for_all Q [] h = tt
-each_for_all Q (x ∷ xs) h = ((λ w. (h w).0), each_for_all Q xs (λ w. (h w).1))
+use Rattle.lifting.proofs.Lists.{each_two, each_for_all}
 
 module _ (k : CaseDocument) (b : Bundle) (few_elements : length b.model.elements ≤ 2 ^ 64) (few_nodes : AreFew b.templates) (h : IsLiftedCase k b) where
   keys_differ : Pairwise (λ s t. s ≢ t) (map (λ n. n.key) k.nodes)

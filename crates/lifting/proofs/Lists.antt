@@ -62,6 +62,11 @@ pub each_two : {A : Type 0} (P Q : A → Type 0) (xs : List A) → Each P xs →
 each_two P Q [] h g = tt
 each_two P Q (x ∷ xs) h g = ((h.0, g.0), each_two P Q xs h.1 g.1)
 
+-- at each of many, for each element: for each element, at each
+pub each_for_all : {A W : Type 0} (Q : W → A → Type 0) (xs : List A) → ((w : W) → Each (Q w) xs) → Each (λ x. (w : W) → Q w x) xs
+each_for_all Q [] h = tt
+each_for_all Q (x ∷ xs) h = ((λ w. (h w).0), each_for_all Q xs (λ w. (h w).1))
+
 -- the filter's own test holds of what it keeps
 pub each_passes : {A : Type 0} (p : A → Bool) (xs : List A) → Each (λ x. p x ≡ true) (filter p xs)
 each_passes p [] = tt

@@ -6,12 +6,9 @@ use Rattle.meaning.specs.Texts.{flat}
 use Rattle.meaning.proofs.CutTrees.{Each}
 use Rattle.meaning.proofs.ThinTidy.{member_later}
 use Rattle.meaning.proofs.ThinModels.{each_by}
-use Rattle.lifting.proofs.Pairs.{Pairwise}
+use Rattle.lifting.specs.Members.{Pairwise}
+pub use Rattle.lifting.specs.Members.{Member}
 use Rattle.lifting.proofs.Lists.{each_two}
-
-abbrev pub Member : {A : Type 0} → A → List A → Type 0
-Member x [] = ⊥
-Member x (y ∷ ys) = (y ≡ x) ⊎ Member x ys
 
 module _ {A : Type 0} where
   pub member_front : (x : A) (xs ys : List A) → Member x xs → Member x (xs ++ ys)

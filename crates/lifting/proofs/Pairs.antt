@@ -8,10 +8,7 @@ use Rattle.meaning.specs.Tidy.{all_differ}
 use Rattle.meaning.proofs.CutTrees.{Each}
 use Rattle.meaning.proofs.ThinModels.{each_filtered, each_by}
 use Rattle.lifting.proofs.Lists.{each_append, each_two}
-
-abbrev pub Pairwise : {A : Type 0} → (A → A → Type 0) → List A → Type 0
-Pairwise R [] = Unit {0}
-Pairwise R (x ∷ xs) = Each (R x) xs × Pairwise R xs
+pub use Rattle.lifting.specs.Members.{Pairwise}
 
 -- ---- each
 

@@ -32,7 +32,7 @@ lengths_in_front : (k e : ℕ) (ts : List (List ℕ)) → Each (λ t. length t �
 lengths_in_front k e [] h = tt
 lengths_in_front k e (t ∷ ts) h = (ap suc h.0, lengths_in_front k e ts h.1)
 
-tuple_lengths : (m : PlainModel) (vs : List ℕ) → Each (λ t. length t ≡ length vs) (tuples m vs)
+pub tuple_lengths : (m : PlainModel) (vs : List ℕ) → Each (λ t. length t ≡ length vs) (tuples m vs)
 tuple_lengths m [] = (refl, tt)
 tuple_lengths m (v ∷ vs) =
     each_of_flat (λ t. length t ≡ suc (length vs)) (λ e. map (λ es. e ∷ es) (tuples m vs)) (elements_of_type m v)

@@ -5,5 +5,14 @@ pub mod KeySteps
 pub mod RootedTrees
 pub mod LiftedCases
 pub mod ScopedTemplates
+pub mod FittingTemplates
 pub mod WorldLifting
 pub mod CaseCounts
+pub mod Stops
+pub mod Noted
+pub mod Sites
+pub mod LiftedInstances
+pub mod TextParts
+pub mod Members
+pub mod Overflows
+pub mod FittingBundles

@@ -1,0 +1,17 @@
+use Rattle.std.proofs.Common.{◌≡◌, ◌∙◌, ◌+◌, ◌++◌, [], ◌∷◌, length, take, suc, sym, ap, arith}
+use Rattle.std.proofs.lemmas.Option.{slice_get_within}
+use Rattle.std.proofs.lemmas.List.{length-take-le}
+use Rattle.lifting.proofs.LoopSteps.{taken_more}
+use Rattle.lifting.proofs.instance.copied.Goals as goal
+
+pub add-requires : goal.add-requires
+add-requires c =
+    let within = slice_get_within c.args.names.now c.names.number c.name.result.now c.name.ensures.name in
+    let taken = length-take-le c.names.number c.args.names.now (omega (arith, within)) in
+    omega (arith, ap length c.names.invariant, taken, within, c.count-number-end.ensures.count)
+
+pub names-preserved : goal.names-preserved
+names-preserved c =
+    let next = taken_more c.args.names.now c.names.number c.name.result.now c.name.ensures.name in
+    let after : suc c.names.number ≡ c.names.number + 1 = omega arith in
+    c.in-Ok.ensures.added.1 ∙ ap (λ names. names ++ c.name.result.now ∷ []) c.names.invariant ∙ sym next ∙ ap (λ n. take n c.args.names.now) after
