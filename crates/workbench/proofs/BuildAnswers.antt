@@ -1,37 +1,29 @@
 -- The answers of a build to the bytes of a bundle.
-use Rattle.std.proofs.Common.{◌≡◌, refl, sym, ap, ◌∙◌, subst, ℕ, ◌<◌, ◌≤◌, List, [], ◌∷◌, length, true, false, not, arith}
-use Rattle.std.specs.Prelude.{◌==◌, Some, Contains, IsTrue}
+use Rattle.std.proofs.Common.{◌≡◌, refl, sym, ap, ◌∙◌, subst, ℕ, ◌≤◌, List, [], ◌∷◌, length, true, false, not, arith}
+use Rattle.std.specs.Prelude.{◌==◌, Contains}
 use Rattle.std.proofs.lemmas.Bool.Decides.{nat_tests}
-use Rattle.meaning.specs.Counts.{Rose}
-use Rattle.meaning.specs.Documents.{Document, of_json}
+use Rattle.meaning.specs.Counts.{Rose, greatest_count}
 use Rattle.meaning.specs.BundlePlaces.{BundleFault}
-use Rattle.meaning.specs.CaseFiles.{CaseDocument}
-use Rattle.meaning.specs.CaseBytes.{case_bytes, case_data}
-use Rattle.meaning.specs.CaseReading.{Is, read_case, read_document}
-use Rattle.meaning.specs.Headline.{IsBuildOf}
-use Rattle.meaning.specs.Tidy.{ValidWorld}
-use Rattle.meaning.specs.ThinCases.{thin_case}
+use Rattle.meaning.specs.Features.{feature_names}
 use Rattle.meaning.specs.Words.{Build}
-use Rattle.meaning.specs.Statuses.{BadBundle, BigCase, Unsupported}
-use Rattle.meaning.specs.StrategyTests.{thin_bundle_passes, thin_bundle}
+use Rattle.meaning.specs.Statuses.{BadBundle, Unsupported}
 use Rattle.meaning.specs.TopCall.{Diagrams}
-use Rattle.meaning.specs.Answers.{Answer, Prints, refusal, BundleReading, Faulty, NotBuilt, Good, AfterBundle, FewEntries, IsBuildAnswer, too_many_bytes, built, ShowsCase, IsAnswer, bundle_in, most_bytes}
-use Rattle.meaning.specs.Derivation.{bundle_of}
-use Rattle.meaning.proofs.StrategyDocuments.{thin_is_bundle}
-use Rattle.meaning.proofs.StrategyReading.{thin_is_proper}
-use Rattle.meaning.proofs.ThinBuild.{thin_is_build}
-use Rattle.meaning.proofs.ThinCasesRead.{thin_case_reads, proper_is_within}
-use Rattle.meaning.proofs.ThinReading.{thin_has_product}
+use Rattle.meaning.specs.Answers.{Answer, refusal, BundleReading, Faulty, NotBuilt, Good, AfterBundle, IsBuildAnswer, ShowsCase, IsAnswer, bundle_in}
+use Rattle.meaning.specs.Derivation.{Bundle, bundle_of}
+use Rattle.meaning.proofs.FirstFaults.{first_is_contained}
 use Rattle.doc_tree.specs.Places.{fault_of}
-use Rattle.conditions.specs.Diagrams.{State}
+use Rattle.worlds.proofs.Kept.{raised_later, rose_if_raised}
+use Rattle.conditions.specs.Diagrams.{State, IsBounded, algebra_of}
+use Rattle.workbench.specs.declared.bundle.Bundle as code
 use Rattle.workbench.specs.declared.status.Status.{Status}
 use Rattle.workbench.specs.declared.status.Status.TheVariants as status
 use Rattle.workbench.specs.BuildingStage.{building_cases}
-use Rattle.workbench.specs.Limits.{IsOpenedWith, diagrams_of}
+use Rattle.workbench.specs.BundleView.{bundle_view}
+use Rattle.workbench.specs.Limits.{IsOpenedWith, HasFewFeatures, diagrams_of}
+use Rattle.workbench.specs.Products.{SameLimits, StopsOver}
 use Rattle.workbench.specs.Run.{StopsBuilding}
 use Rattle.workbench.specs.Readings.{IsGoodBundle, StopsBundle}
-use Rattle.workbench.specs.ThinConditions.{SameLimits}
-use Rattle.workbench.specs.ThinDocuments.{IsBytesOf, IsTooBig, StopsWriting}
+use Rattle.workbench.proofs.FewFeatures.{refused_below, read_has_few}
 
 -- ---- diagrams
 
@@ -48,69 +40,48 @@ is_shut new e = ap (λ m. not (m == 0)) e
 pub shut_is_opened : (limit : ℕ) (new : State) → new.region.limit ≡ 0 → IsOpenedWith limit (diagrams_of new)
 shut_is_opened limit new e there = absurd (let n : false ≡ true = sym (ap (λ m. not (m == 0)) e) ∙ there in cc)
 
--- ---- what is built
+-- ---- over diagrams
 
-module _ (d : Document) (passes : thin_bundle_passes d ≡ true) where
-  -- the bytes of the case are a build, as they read back
-  is_build : read_case (case_bytes (thin_case (thin_bundle d))) ≡ Is (thin_case (thin_bundle d)) → IsBuildOf (case_bytes (thin_case (thin_bundle d))) (bundle_of d)
-  is_build reads =
-      subst (IsBuildOf (case_bytes (thin_case (thin_bundle d)))) (sym (thin_is_bundle d passes))
-      (thin_is_build (thin_bundle d) (proper_is_within (thin_bundle d) (thin_is_proper d passes)) reads)
+module _ (b : Bundle) where
+  -- what stops a later step stops the whole
+  pub stops_later : (old mid new : State) (s : Status) → SameLimits old mid → StopsOver b mid new s → StopsOver b old new s
+  stops_later old mid new status.Done same h = absurd h
+  stops_later old mid new status.BadWords same h = absurd h
+  stops_later old mid new (status.BadBundle fault) same h = h
+  stops_later old mid new (status.BadConfig rule at) same h = h
+  stops_later old mid new status.NotValid same h = h
+  stops_later old mid new (status.BadCase fault) same h = h
+  stops_later old mid new (status.NodeLimit used) same h = (h.0 ∙ same.limit, raised_later same.refused h.1)
+  stops_later old mid new (status.BigCase entries) same h = h
+  stops_later old mid new (status.TooLong n) same h = absurd h
+  stops_later old mid new (status.ReadFault n) same h = absurd h
+  stops_later old mid new status.WriteFault same h = absurd h
+  stops_later old mid new status.NoMemory same h = tt
+  stops_later old mid new status.Unsupported same h = h
 
-  has_product : ValidWorld (bundle_of d)
-  has_product = subst ValidWorld (sym (thin_is_bundle d passes)) (thin_has_product (thin_bundle d))
-
-  few_entries : IsTrue building_cases.counts_entries → FewEntries (bundle_of d)
-  few_entries h = absurd (let n : false ≡ true = h in cc)
-
-  module _ (k : CaseDocument) (is : k ≡ thin_case (thin_bundle d)) where
-    pub is_built_here : (bytes : List ℕ) → IsBytesOf k bytes → IsBuildAnswer building_cases (bundle_of d) ShowsCase (Prints bytes)
-    is_built_here bytes h =
-        let written : bytes ≡ case_bytes (thin_case (thin_bundle d)) = h.written ∙ ap case_bytes is in
-        let reads : read_case (case_bytes (thin_case (thin_bundle d))) ≡ Is (thin_case (thin_bundle d))
-        = ap read_case (sym written) ∙ h.reads ∙ ap Is is in
-        built bytes
-        (record {
-          product = has_product;
-          few = few_entries;
-          build = subst (λ s. IsBuildOf s (bundle_of d)) (sym written) (is_build reads);
-          short = λ e. h.short;
-        })
-        refl
-
-    is_too_big_here : IsTooBig k → IsBuildAnswer building_cases (bundle_of d) ShowsCase (refusal (BigCase false))
-    unfolding read_case
-    is_too_big_here h =
-        let reads : read_case (case_bytes k) ≡ read_document (Some (of_json (case_data k))) = ap read_document h.reads in
-        let back : read_case (case_bytes (thin_case (thin_bundle d))) ≡ Is (thin_case (thin_bundle d))
-        = ap (λ x. read_case (case_bytes x)) (sym is) ∙ reads ∙ ap (λ x. read_document (Some (of_json (case_data x)))) is
-        ∙ thin_case_reads (thin_bundle d) (thin_is_proper d passes) in
-        too_many_bytes (case_bytes (thin_case (thin_bundle d))) refl has_product few_entries (is_build back)
-        (subst (λ x. most_bytes < length (case_bytes x)) is h.long)
-
-    -- why no bytes were written, for diagrams that were opened with the limit
-    pub stops_building : (limit : ℕ) (old opened new : State) (s : Status) → 1 ≤ limit → opened.region.limit ≡ limit → opened.refused ≡ old.refused
-        → SameLimits opened new → StopsWriting k opened new s
-        → StopsBuilding limit (diagrams_of old) (diagrams_of new) (IsBuildAnswer building_cases (bundle_of d) ShowsCase) s
-    stops_building limit old opened new status.Done some with_limit same kept h = absurd h
-    stops_building limit old opened new status.BadWords some with_limit same kept h = absurd h
-    stops_building limit old opened new (status.BadBundle fault) some with_limit same kept h = absurd h
-    stops_building limit old opened new (status.BadConfig rule at) some with_limit same kept h = absurd h
-    stops_building limit old opened new status.NotValid some with_limit same kept h = absurd h
-    stops_building limit old opened new (status.BadCase fault) some with_limit same kept h = absurd h
-    stops_building limit old opened new (status.NodeLimit used) some with_limit same kept h = record {
-      used_all = h.0 ∙ with_limit;
-      cause = subst (λ n. Rose n new.refused) same h.1;
-      opened = is_open new limit some (kept.limit ∙ with_limit);
-      with_limit = kept.limit ∙ with_limit;
-    }
-    stops_building limit old opened new (status.BigCase true) some with_limit same kept h = absurd h
-    stops_building limit old opened new (status.BigCase false) some with_limit same kept h = is_too_big_here h
-    stops_building limit old opened new (status.TooLong n) some with_limit same kept h = absurd h
-    stops_building limit old opened new (status.ReadFault n) some with_limit same kept h = absurd h
-    stops_building limit old opened new status.WriteFault some with_limit same kept h = absurd h
-    stops_building limit old opened new status.NoMemory some with_limit same kept h = tt
-    stops_building limit old opened new status.Unsupported some with_limit same kept h = absurd h
+  -- why there is no case, for diagrams that were opened with the limit
+  pub stops_building : (limit : ℕ) (old opened new : State) (s : Status) → 1 ≤ limit → opened.region.limit ≡ limit → opened.refused ≡ old.refused
+      → opened.region.vars ≡ length (feature_names b.line) → SameLimits opened new → new.refused ≤ greatest_count → IsBounded (algebra_of new) → StopsOver b opened new s
+      → StopsBuilding limit (length (feature_names b.line) ≤ 4) (diagrams_of old) (diagrams_of new) (IsBuildAnswer building_cases b ShowsCase) s
+  stops_building limit old opened new status.Done some with_limit same vars kept few bounded h = absurd h
+  stops_building limit old opened new status.BadWords some with_limit same vars kept few bounded h = absurd h
+  stops_building limit old opened new (status.BadBundle fault) some with_limit same vars kept few bounded h = h
+  stops_building limit old opened new (status.BadConfig rule at) some with_limit same vars kept few bounded h = h
+  stops_building limit old opened new status.NotValid some with_limit same vars kept few bounded h = h
+  stops_building limit old opened new (status.BadCase fault) some with_limit same vars kept few bounded h = h
+  stops_building limit old opened new (status.NodeLimit used) some with_limit same vars kept few bounded h = record {
+    used_all = h.0 ∙ with_limit;
+    cause = subst (λ n. Rose n new.refused) same (rose_if_raised opened.refused new.refused few h.1);
+    opened = is_open new limit some (kept.limit ∙ with_limit);
+    with_limit = kept.limit ∙ with_limit;
+    few = refused_below new opened.refused (length (feature_names b.line)) limit bounded h.1 (kept.vars ∙ vars) (kept.limit ∙ with_limit);
+  }
+  stops_building limit old opened new (status.BigCase entries) some with_limit same vars kept few bounded h = h
+  stops_building limit old opened new (status.TooLong n) some with_limit same vars kept few bounded h = absurd h
+  stops_building limit old opened new (status.ReadFault n) some with_limit same vars kept few bounded h = absurd h
+  stops_building limit old opened new status.WriteFault some with_limit same vars kept few bounded h = absurd h
+  stops_building limit old opened new status.NoMemory some with_limit same vars kept few bounded h = tt
+  stops_building limit old opened new status.Unsupported some with_limit same vars kept few bounded h = h
 
 -- ---- answers
 
@@ -120,9 +91,11 @@ module _ (name bytes : List ℕ) where
   unfolding IsAnswer
   after r a e h = subst (λ x. AfterBundle x a (λ d b. IsBuildAnswer building_cases b ShowsCase a)) (sym e) h
 
-  pub build_answered : (d : Document) (a : Answer) → IsGoodBundle (bundle_in building_cases name bytes) d
-      → IsBuildAnswer building_cases (bundle_of d) ShowsCase a → IsAnswer building_cases (Build name) (bytes ∷ []) a
-  build_answered d a i h = after (Good d (bundle_of d)) a i.good h
+  pub build_answered : (b : code.Bundle) (a : Answer) → IsGoodBundle (bundle_in building_cases name bytes) b
+      → IsBuildAnswer building_cases (bundle_view b) ShowsCase a → IsAnswer building_cases (Build name) (bytes ∷ []) a
+  build_answered b a i h =
+      after (Good i.read.document (bundle_of i.read.document)) a i.good
+      (subst (λ x. IsBuildAnswer building_cases x ShowsCase a) i.read.of_document.is h)
 
   -- one of the faults is named
   faulty : (fs : List BundleFault) (f : BundleFault) → bundle_in building_cases name bytes ≡ Faulty fs → Contains fs f
@@ -131,10 +104,10 @@ module _ (name bytes : List ℕ) where
 
   -- the bundle's own refusals, whatever the diagrams are
   pub bundle_stops : (limit : ℕ) (old new : Diagrams) (s : Status) → StopsBundle (bundle_in building_cases name bytes) s
-      → StopsBuilding limit old new (IsAnswer building_cases (Build name) (bytes ∷ [])) s
+      → StopsBuilding limit (HasFewFeatures (bundle_in building_cases name bytes)) old new (IsAnswer building_cases (Build name) (bytes ∷ [])) s
   bundle_stops limit old new status.Done h = absurd h
   bundle_stops limit old new status.BadWords h = absurd h
-  bundle_stops limit old new (status.BadBundle f) h = faulty h.0 (fault_of f) h.1 h.2
+  bundle_stops limit old new (status.BadBundle f) h = faulty h.0 (fault_of f) h.1 (first_is_contained h.0 (fault_of f) h.2)
   bundle_stops limit old new (status.BadConfig rule at) h = absurd h
   bundle_stops limit old new status.NotValid h = absurd h
   bundle_stops limit old new (status.BadCase fault) h = absurd h
@@ -147,19 +120,25 @@ module _ (name bytes : List ℕ) where
   bundle_stops limit old new status.Unsupported h = after NotBuilt (refusal Unsupported) h refl
 
   -- what stops the building of a good bundle
-  pub building_stops : (limit : ℕ) (old new : Diagrams) (d : Document) (s : Status) → IsGoodBundle (bundle_in building_cases name bytes) d
-      → StopsBuilding limit old new (IsBuildAnswer building_cases (bundle_of d) ShowsCase) s
-      → StopsBuilding limit old new (IsAnswer building_cases (Build name) (bytes ∷ [])) s
-  building_stops limit old new d status.Done i h = absurd h
-  building_stops limit old new d status.BadWords i h = absurd h
-  building_stops limit old new d (status.BadBundle fault) i h = build_answered d _ i h
-  building_stops limit old new d (status.BadConfig rule at) i h = build_answered d _ i h
-  building_stops limit old new d status.NotValid i h = build_answered d _ i h
-  building_stops limit old new d (status.BadCase fault) i h = build_answered d _ i h
-  building_stops limit old new d (status.NodeLimit used) i h = h
-  building_stops limit old new d (status.BigCase entries) i h = build_answered d _ i h
-  building_stops limit old new d (status.TooLong k) i h = absurd h
-  building_stops limit old new d (status.ReadFault k) i h = absurd h
-  building_stops limit old new d status.WriteFault i h = absurd h
-  building_stops limit old new d status.NoMemory i h = tt
-  building_stops limit old new d status.Unsupported i h = build_answered d _ i h
+  pub building_stops : (limit : ℕ) (old new : Diagrams) (b : code.Bundle) (s : Status) → IsGoodBundle (bundle_in building_cases name bytes) b
+      → StopsBuilding limit (length (feature_names (bundle_view b).line) ≤ 4) old new (IsBuildAnswer building_cases (bundle_view b) ShowsCase) s
+      → StopsBuilding limit (HasFewFeatures (bundle_in building_cases name bytes)) old new (IsAnswer building_cases (Build name) (bytes ∷ [])) s
+  building_stops limit old new b status.Done i h = absurd h
+  building_stops limit old new b status.BadWords i h = absurd h
+  building_stops limit old new b (status.BadBundle fault) i h = build_answered b _ i h
+  building_stops limit old new b (status.BadConfig rule at) i h = build_answered b _ i h
+  building_stops limit old new b status.NotValid i h = build_answered b _ i h
+  building_stops limit old new b (status.BadCase fault) i h = build_answered b _ i h
+  building_stops limit old new b (status.NodeLimit used) i h = record {
+    used_all = h.used_all;
+    cause = h.cause;
+    opened = h.opened;
+    with_limit = h.with_limit;
+    few = λ x. h.few (read_has_few (bundle_in building_cases name bytes) b i x);
+  }
+  building_stops limit old new b (status.BigCase entries) i h = build_answered b _ i h
+  building_stops limit old new b (status.TooLong k) i h = absurd h
+  building_stops limit old new b (status.ReadFault k) i h = absurd h
+  building_stops limit old new b status.WriteFault i h = absurd h
+  building_stops limit old new b status.NoMemory i h = tt
+  building_stops limit old new b status.Unsupported i h = build_answered b _ i h

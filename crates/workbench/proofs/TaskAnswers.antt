@@ -1,13 +1,15 @@
 -- The answer of a task, from what was read of its files and what was answered to it.
 use Rattle.std.proofs.Common.{◌≡◌, refl, sym, ap, ◌∙◌, subst, ℕ, zero, suc, ◌≤◌, List, [], ◌∷◌, length, false, Some, None}
 use Rattle.meaning.specs.Words.{Task, Build, File, bundle_file, files_of}
-use Rattle.meaning.specs.Answers.{Answer, IsAnswer}
+use Rattle.meaning.specs.Answers.{Answer, IsAnswer, bundle_in}
 use Rattle.meaning.specs.TopCall.{Outside, Diagrams, AllWithin, AgreeWith}
 use Rattle.workbench.specs.declared.status.Status.{Status}
 use Rattle.workbench.specs.declared.status.Status.TheVariants as status
 use Rattle.workbench.specs.BuildingStage.{building_cases}
+use Rattle.workbench.specs.Limits.{HasFewFeatures}
 use Rattle.workbench.specs.Run.{IsFileOf, StopsFiles, Refuses, StopsBuilding, AnswersTask, StopsTask}
 use Rattle.workbench.proofs.TextAnswers.{refuses_by}
+use Rattle.workbench.proofs.FewFeatures.{built_has_few}
 
 module _ (task : Task) (limit : ℕ) (before after : Outside) (old new : Diagrams) where
   pub files_stop : (s : Status) → StopsFiles (files_of task) before after s → StopsTask task limit before after old new s
@@ -72,14 +74,24 @@ build_within name before bytes read (suc k) f is those told = absurd (let n : No
 
 -- what stops a build, from what was read of its file
 module _ (name : List ℕ) (limit : ℕ) (before after : Outside) (old new : Diagrams) (bytes : List ℕ) (read : IsFileOf (before.holds name) 16777216 bytes) where
-  pub build_stops : (s : Status) → StopsBuilding limit old new (IsAnswer building_cases (Build name) (bytes ∷ [])) s → StopsTask (Build name) limit before after old new s
+  pub build_stops : (s : Status) → StopsBuilding limit (HasFewFeatures (bundle_in building_cases name bytes)) old new (IsAnswer building_cases (Build name) (bytes ∷ [])) s → StopsTask (Build name) limit before after old new s
   build_stops status.Done h = absurd h
   build_stops status.BadWords h = absurd h
   build_stops (status.BadBundle fault) h = task_answered (Build name) limit before after old new (bytes ∷ []) (one_file name before bytes read) _ h
   build_stops (status.BadConfig rule at) h = task_answered (Build name) limit before after old new (bytes ∷ []) (one_file name before bytes read) _ h
   build_stops status.NotValid h = task_answered (Build name) limit before after old new (bytes ∷ []) (one_file name before bytes read) _ h
   build_stops (status.BadCase fault) h = task_answered (Build name) limit before after old new (bytes ∷ []) (one_file name before bytes read) _ h
-  build_stops (status.NodeLimit used) h = record { within = build_within name before bytes read; with_diagrams = refl; reached = h }
+  build_stops (status.NodeLimit used) h = record {
+    within = build_within name before bytes read;
+    with_diagrams = refl;
+    reached = record {
+      used_all = h.used_all;
+      cause = h.cause;
+      opened = h.opened;
+      with_limit = h.with_limit;
+      few = λ x. h.few (built_has_few name bytes before read.agree x);
+    };
+  }
   build_stops (status.BigCase entries) h = task_answered (Build name) limit before after old new (bytes ∷ []) (one_file name before bytes read) _ h
   build_stops (status.TooLong k) h = absurd h
   build_stops (status.ReadFault k) h = absurd h

@@ -1,50 +1,35 @@
 -- The answers of `derive` and `product`, from what was read of their files.
-use Rattle.std.proofs.Common.{lit<, ◌≡◌, refl, sym, ap, ap₂, ◌∙◌, subst, ℕ, ◌≤◌, List, [], ◌∷◌, map, Bool, true, false, length}
-use Rattle.std.specs.Prelude.{Contains, Result, Err, ◌&&◌}
-use Rattle.std.specs.List.{list_all}
-use Rattle.meaning.specs.Documents.{Document}
+use Rattle.std.proofs.Common.{lit<, ◌≡◌, refl, sym, ap, ap₂, ◌∙◌, subst, ℕ, List, [], ◌∷◌, Bool, true, false}
+use Rattle.std.specs.Prelude.{Contains, Result, Err}
 use Rattle.meaning.specs.Features.{feature_names, is_valid}
-use Rattle.meaning.specs.BundlePlaces.{BundleFault, name_in, are_new}
-use Rattle.meaning.specs.LineRules.{line_in, features_in, feature_names_in, feature_has_form}
+use Rattle.meaning.specs.BundlePlaces.{BundleFault}
 use Rattle.meaning.specs.Cases.{Case, text_of_case}
 use Rattle.meaning.specs.CaseFiles.{CaseDocument, holds, cut}
 use Rattle.meaning.specs.CaseReading.{CaseFault, CaseReading, Is, Broken, read_case}
 use Rattle.meaning.specs.Configurations.{Configuration, Refused, World, ConfigurationFault}
-use Rattle.meaning.specs.Derivation.{bundle_of, derived_at, direct_at, if_valid}
+use Rattle.meaning.specs.Derivation.{Bundle, bundle_of, derived_at, if_valid}
 use Rattle.meaning.specs.Words.{Product}
 use Rattle.meaning.specs.Statuses.{BadBundle, BadCase, BadConfig, NotValid, Unsupported, of_configuration}
-use Rattle.meaning.specs.StrategyTests.{thin_bundle_passes, thin_bundle}
 use Rattle.meaning.specs.Stages.{fault_of_case}
-use Rattle.meaning.specs.ThinTests.{features_pass, root_passes, other_passes, items_pass}
-use Rattle.meaning.specs.ThinCases.{thin_case, thin_names}
 use Rattle.meaning.specs.Answers.{Answer, Prints, refusal, BundleReading, Faulty, NotBuilt, Good, AfterBundle, AfterCase, AfterConfiguration, AfterValid, IsAnswer, bundle_in, is_unread, configured, of_derivation, product_answer}
-use Rattle.meaning.proofs.EmptyLists.{both_true}
-use Rattle.meaning.proofs.ItemRules.{items_have_new_names}
-use Rattle.meaning.proofs.ThinRules.{line_features}
-use Rattle.meaning.proofs.ThinDocuments.{names_split}
-use Rattle.meaning.proofs.StrategyDocuments.{thin_is_bundle, thin_passing_parts}
-use Rattle.meaning.proofs.StrategyReading.{thin_is_proper}
-use Rattle.meaning.proofs.ThinLines.{thin_feature_names}
-use Rattle.meaning.proofs.ThinLaw.{features_are, thin_derives_as_direct}
+use Rattle.meaning.proofs.FirstFaults.{first_is_contained}
 use Rattle.case_derive.specs.Keys.{unkeyed}
 use Rattle.case_derive.proofs.Keys.{text_of_unkeyed}
-use Rattle.workbench.specs.ItemNames.{are_new_after}
-use Rattle.workbench.proofs.NewNames.{are_new_is}
-use Rattle.workbench.proofs.ThinCuts.{own_features}
 use Rattle.doc_tree.specs.Places.{fault_of}
 use Rattle.lifted_case.specs.CaseView.{fault_view}
-use Rattle.workbench.specs.ThinView.{case_document}
-use Rattle.workbench.specs.declared.thin_data.ThinCase.{ThinCase}
 use Rattle.lifted_case.specs.declared.lifted.ReadCase.{ReadCase}
 use Rattle.lifted_case.specs.declared.lifted.CaseFault as code
-use Rattle.workbench.specs.declared.status.Status.{Status}
-use Rattle.workbench.specs.declared.status.Status.TheVariants as status
 use Rattle.lifted_case.specs.declared.stop.ReadCaseStop.{ReadCaseStop}
 use Rattle.lifted_case.specs.declared.stop.ReadCaseStop.TheVariants as case_stop
+use Rattle.workbench.specs.declared.bundle.Bundle as bundle_code
+use Rattle.workbench.specs.declared.status.Status.{Status}
+use Rattle.workbench.specs.declared.status.Status.TheVariants as status
 use Rattle.workbench.specs.BuildingStage.{building_cases}
+use Rattle.workbench.specs.BundleView.{bundle_view}
 use Rattle.workbench.specs.Run.{Refuses}
 use Rattle.workbench.specs.Stopped.{status_of_case_stop}
-use Rattle.workbench.specs.Readings.{IsGoodBundle, StopsBundle, IsWorldOf, StopsConfiguration, AnswersDerive, AnswersProduct}
+use Rattle.workbench.specs.Readings.{IsGoodBundle, StopsBundle, StopsConfiguration, AnswersDerive, AnswersProduct}
+use Rattle.workbench.proofs.BundleReadings.{is_read}
 
 -- ---- refusals
 
@@ -66,37 +51,33 @@ refuses_by P Q f status.Unsupported h = f _ h
 
 -- ---- configurations
 
-module _ (next : Answer → List Bool → Type 0) where
-  abbrev Configured : Bool → Configuration → Answer → Type 0
-  Configured unread c a = AfterConfiguration unread c a (next a)
+module _ (next : Answer → List Bool → Type 0) (name : List ℕ) where
+  abbrev Configured : Configuration → Answer → Type 0
+  Configured c a = AfterConfiguration (is_unread building_cases name) c a (next a)
 
-  configured_by : (unread : Bool) (c : Configuration) (a : Answer) (now : Bool) (is : Configuration) → unread ≡ now → c ≡ is → Configured now is a → Configured unread c a
-  configured_by unread c a now is e f h = subst (λ u. Configured u c a) (sym e) (subst (λ x. Configured now x a) (sym f) h)
+  configured_by : (c : Configuration) (a : Answer) (is : Configuration) → c ≡ is → AfterConfiguration false is a (next a) → Configured c a
+  configured_by c a is f h = subst (λ u. AfterConfiguration u c a (next a)) (sym (is_read name)) (subst (λ x. AfterConfiguration false x a (next a)) (sym f) h)
 
-  world_answers : (unread : Bool) (c : Configuration) (w : List Bool) (a : Answer) → IsWorldOf unread c w → next a w → Configured unread c a
-  world_answers unread c w a i h = configured_by unread c a false (World w) i.is_read i.names h
+  world_answers : (c : Configuration) (w : List Bool) (a : Answer) → c ≡ World w → next a w → Configured c a
+  world_answers c w a i h = configured_by c a (World w) i h
 
-  not_read : (unread : Bool) (c : Configuration) → unread ≡ true → Configured unread c (refusal Unsupported)
-  not_read unread c e = configured_by unread c (refusal Unsupported) true c e refl refl
+  bad_config : (c : Configuration) (rule at : ℕ) (f : ConfigurationFault) → c ≡ Refused f → of_configuration f ≡ BadConfig rule at → Configured c (refusal (BadConfig rule at))
+  bad_config c rule at f is told = configured_by c (refusal (BadConfig rule at)) (Refused f) is (ap refusal (sym told))
 
-  bad_config : (unread : Bool) (c : Configuration) (rule at : ℕ) → unread ≡ false → (f : ConfigurationFault) → c ≡ Refused f → of_configuration f ≡ BadConfig rule at
-      → Configured unread c (refusal (BadConfig rule at))
-  bad_config unread c rule at e f is told = configured_by unread c (refusal (BadConfig rule at)) false (Refused f) e is (ap refusal (sym told))
-
-  config_refuses : (unread : Bool) (c : Configuration) (s : Status) → StopsConfiguration unread c s → Refuses (Configured unread c) s
-  config_refuses unread c status.Done h = absurd h
-  config_refuses unread c status.BadWords h = absurd h
-  config_refuses unread c (status.BadBundle fault) h = absurd h
-  config_refuses unread c (status.BadConfig rule at) h = bad_config unread c rule at h.0 h.1.0 h.1.1 h.1.2
-  config_refuses unread c status.NotValid h = absurd h
-  config_refuses unread c (status.BadCase fault) h = absurd h
-  config_refuses unread c (status.NodeLimit used) h = absurd h
-  config_refuses unread c (status.BigCase entries) h = absurd h
-  config_refuses unread c (status.TooLong k) h = absurd h
-  config_refuses unread c (status.ReadFault k) h = absurd h
-  config_refuses unread c status.WriteFault h = absurd h
-  config_refuses unread c status.NoMemory h = tt
-  config_refuses unread c status.Unsupported h = not_read unread c h
+  config_refuses : (c : Configuration) (s : Status) → StopsConfiguration c s → Refuses (Configured c) s
+  config_refuses c status.Done h = absurd h
+  config_refuses c status.BadWords h = absurd h
+  config_refuses c (status.BadBundle fault) h = absurd h
+  config_refuses c (status.BadConfig rule at) h = bad_config c rule at h.0 h.1 h.2
+  config_refuses c status.NotValid h = absurd h
+  config_refuses c (status.BadCase fault) h = absurd h
+  config_refuses c (status.NodeLimit used) h = absurd h
+  config_refuses c (status.BigCase entries) h = absurd h
+  config_refuses c (status.TooLong k) h = absurd h
+  config_refuses c (status.ReadFault k) h = absurd h
+  config_refuses c status.WriteFault h = absurd h
+  config_refuses c status.NoMemory h = tt
+  config_refuses c status.Unsupported h = absurd h
 
 -- ---- derive
 
@@ -117,7 +98,7 @@ module _ (bytes name chosen : List ℕ) where
   derives_at k a w = a ≡ of_derivation (derived_at k w)
 
   abbrev after_case : CaseReading → Answer → Type 0
-  after_case r a = AfterCase (fault_of_case r) r a (λ k. Configured (derives_at k) (is_unread building_cases name) (configured k.features name chosen) a)
+  after_case r a = AfterCase (fault_of_case r) r a (λ k. Configured (derives_at k) name (configured k.features name chosen) a)
 
   derives_from : (r : CaseReading) (a : Answer) → read_case bytes ≡ r → after_case r a → AnswersDerive bytes name chosen a
   unfolding IsAnswer
@@ -133,30 +114,51 @@ module _ (bytes name chosen : List ℕ) where
   case_refuses r case_stop.NoMemory e h = tt
 
   pub derive_answered : (k : CaseDocument) (w : List Bool) (a : Answer) → read_case bytes ≡ Is k
-      → IsWorldOf (is_unread building_cases name) (configured k.features name chosen) w → of_derivation (derived_at k w) ≡ a → AnswersDerive bytes name chosen a
+      → configured k.features name chosen ≡ World w → of_derivation (derived_at k w) ≡ a → AnswersDerive bytes name chosen a
   derive_answered k w a e i h =
-      derives_from (Is k) a e (world_answers (derives_at k) (is_unread building_cases name) (configured k.features name chosen) w a i (sym h))
+      derives_from (Is k) a e (world_answers (derives_at k) name (configured k.features name chosen) w a i (sym h))
 
   pub derive_refused : (k : CaseDocument) (w : List Bool) (s : Status) → read_case bytes ≡ Is k
-      → IsWorldOf (is_unread building_cases name) (configured k.features name chosen) w
+      → configured k.features name chosen ≡ World w
       → Refuses (λ a. of_derivation (derived_at k w) ≡ a) s → Refuses (AnswersDerive bytes name chosen) s
   derive_refused k w s e i h = refuses_by (λ a. of_derivation (derived_at k w) ≡ a) (AnswersDerive bytes name chosen) (λ a. derive_answered k w a e i) s h
 
   pub derive_stops : (k : CaseDocument) (s : Status) → read_case bytes ≡ Is k
-      → StopsConfiguration (is_unread building_cases name) (configured k.features name chosen) s → Refuses (AnswersDerive bytes name chosen) s
+      → StopsConfiguration (configured k.features name chosen) s → Refuses (AnswersDerive bytes name chosen) s
   derive_stops k s e h =
-      refuses_by (Configured (derives_at k) (is_unread building_cases name) (configured k.features name chosen)) (AnswersDerive bytes name chosen)
-      (λ a. derives_from (Is k) a e) s (config_refuses (derives_at k) (is_unread building_cases name) (configured k.features name chosen) s h)
+      refuses_by (Configured (derives_at k) name (configured k.features name chosen)) (AnswersDerive bytes name chosen)
+      (λ a. derives_from (Is k) a e) s (config_refuses (derives_at k) name (configured k.features name chosen) s h)
 
 -- ---- product
 
--- what a product answers at a world
-abbrev products_at : Document → Answer → List Bool → Type 0
-products_at d a w = AfterValid (is_valid (bundle_of d).line w) a (a ≡ product_answer building_cases (bundle_of d) w)
+module _ (b : Bundle) where
+  -- what a product answers at a world
+  abbrev products_at : Answer → List Bool → Type 0
+  products_at a w = AfterValid (is_valid b.line w) a (a ≡ product_answer building_cases b w)
 
-valid_or_not : (v : Bool) (a : Answer) (s : List ℕ) → a ≡ of_derivation (if_valid v s) → AfterValid v a (a ≡ of_derivation (if_valid v s))
-valid_or_not true a s e = e
-valid_or_not false a s e = e
+  at_valid : (v : Bool) (a x : Answer) → v ≡ true → a ≡ x → AfterValid v a (a ≡ x)
+  at_valid true a x valid e = e
+  at_valid false a x valid e = absurd (let n : false ≡ true = valid in cc)
+
+  at_other : (v : Bool) (x : Answer) → v ≡ false → AfterValid v (refusal NotValid) (refusal NotValid ≡ x)
+  at_other true x other = absurd (let n : true ≡ false = other in cc)
+  at_other false x other = refl
+
+  module _ (name chosen : List ℕ) (w : List Bool) (names : configured (feature_names b.line) name chosen ≡ World w) where
+    pub text_answered : is_valid b.line w ≡ true → (a : Answer) → product_answer building_cases b w ≡ a → AnswersProduct b name chosen a
+    text_answered valid a h =
+        world_answers products_at name (configured (feature_names b.line) name chosen) w a names (at_valid (is_valid b.line w) a (product_answer building_cases b w) valid (sym h))
+
+    pub text_refused : is_valid b.line w ≡ true → (s : Status) → Refuses (λ a. product_answer building_cases b w ≡ a) s → Refuses (AnswersProduct b name chosen) s
+    text_refused valid s h = refuses_by (λ a. product_answer building_cases b w ≡ a) (AnswersProduct b name chosen) (text_answered valid) s h
+
+    pub not_valid : is_valid b.line w ≡ false → AnswersProduct b name chosen (refusal NotValid)
+    not_valid other =
+        world_answers products_at name (configured (feature_names b.line) name chosen) w (refusal NotValid) names
+        (at_other (is_valid b.line w) (product_answer building_cases b w) other)
+
+  pub text_stops : (name chosen : List ℕ) (s : Status) → StopsConfiguration (configured (feature_names b.line) name chosen) s → Refuses (AnswersProduct b name chosen) s
+  text_stops name chosen s h = config_refuses products_at name (configured (feature_names b.line) name chosen) s h
 
 module _ (bundle_name bytes name chosen : List ℕ) where
   abbrev after_bundle : BundleReading → Answer → Type 0
@@ -169,14 +171,15 @@ module _ (bundle_name bytes name chosen : List ℕ) where
   unfolding IsAnswer
   product_from r a e h = subst (λ x. after_bundle x a) (sym e) h
 
-  pub product_answered : (d : Document) (a : Answer) → IsGoodBundle (bundle_in building_cases bundle_name bytes) d → AnswersProduct d name chosen a
+  pub product_answered : (b : bundle_code.Bundle) (a : Answer) → IsGoodBundle (bundle_in building_cases bundle_name bytes) b → AnswersProduct (bundle_view b) name chosen a
       → IsAnswer building_cases (Product bundle_name name) (bytes ∷ chosen ∷ []) a
-  product_answered d a i h = product_from (Good d (bundle_of d)) a i.good h
+  product_answered b a i h =
+      product_from (Good i.read.document (bundle_of i.read.document)) a i.good (subst (λ x. AnswersProduct x name chosen a) i.read.of_document.is h)
 
-  pub product_refused : (d : Document) (s : Status) → IsGoodBundle (bundle_in building_cases bundle_name bytes) d
-      → Refuses (AnswersProduct d name chosen) s → Refuses (IsAnswer building_cases (Product bundle_name name) (bytes ∷ chosen ∷ [])) s
-  product_refused d s i h =
-      refuses_by (AnswersProduct d name chosen) (IsAnswer building_cases (Product bundle_name name) (bytes ∷ chosen ∷ [])) (λ a. product_answered d a i) s h
+  pub product_refused : (b : bundle_code.Bundle) (s : Status) → IsGoodBundle (bundle_in building_cases bundle_name bytes) b
+      → Refuses (AnswersProduct (bundle_view b) name chosen) s → Refuses (IsAnswer building_cases (Product bundle_name name) (bytes ∷ chosen ∷ [])) s
+  product_refused b s i h =
+      refuses_by (AnswersProduct (bundle_view b) name chosen) (IsAnswer building_cases (Product bundle_name name) (bytes ∷ chosen ∷ [])) (λ a. product_answered b a i) s h
 
   bundle_faulty : (fs : List BundleFault) (f : BundleFault) → bundle_in building_cases bundle_name bytes ≡ Faulty fs → Contains fs f
       → IsAnswer building_cases (Product bundle_name name) (bytes ∷ chosen ∷ []) (refusal (BadBundle f))
@@ -186,7 +189,7 @@ module _ (bundle_name bytes name chosen : List ℕ) where
       → Refuses (IsAnswer building_cases (Product bundle_name name) (bytes ∷ chosen ∷ [])) s
   product_stops status.Done h = absurd h
   product_stops status.BadWords h = absurd h
-  product_stops (status.BadBundle f) h = bundle_faulty h.0 (fault_of f) h.1 h.2
+  product_stops (status.BadBundle f) h = bundle_faulty h.0 (fault_of f) h.1 (first_is_contained h.0 (fault_of f) h.2)
   product_stops (status.BadConfig rule at) h = absurd h
   product_stops status.NotValid h = absurd h
   product_stops (status.BadCase fault) h = absurd h
@@ -197,61 +200,3 @@ module _ (bundle_name bytes name chosen : List ℕ) where
   product_stops status.WriteFault h = absurd h
   product_stops status.NoMemory h = tt
   product_stops status.Unsupported h = product_from NotBuilt (refusal Unsupported) h refl
-
-names_are_new : (ds : List Document) → features_pass ds ≡ true → are_new [] (map name_in ds) ≡ true
-names_are_new [] e = absurd (let n : false ≡ true = e in cc)
-names_are_new (d ∷ ds) e =
-    items_have_new_names 256 feature_has_form (d ∷ ds)
-    (both_true (root_passes d && list_all (other_passes (name_in d)) ds) (items_pass 256 feature_has_form (d ∷ ds)) e).1
-
-module _ (d : Document) (passes : thin_bundle_passes d ≡ true) (case : ThinCase) (is : case_document case ≡ thin_case (thin_bundle d)) where
-  names_of_case : (thin_case (thin_bundle d)).features ≡ thin_names (thin_bundle d)
-  unfolding thin_case
-  names_of_case = features_are (thin_bundle d) [] (thin_bundle d).enumeration
-
-  pub case_features : case.features ≡ thin_names (thin_bundle d)
-  case_features = sym (own_features case) ∙ ap (λ k. k.features) is ∙ names_of_case
-
-  pub few_features : length case.features ≤ 256
-  few_features = subst (λ ns. length ns ≤ 256) (sym case_features) (thin_is_proper d passes).few_names
-
-  names_of_document : thin_names (thin_bundle d) ≡ feature_names_in d
-  unfolding thin_bundle
-  names_of_document = names_split (features_in d) (line_features (line_in d) (thin_passing_parts d passes).line)
-
-  -- no feature stands twice
-  pub new_features : are_new_after [] case.features ≡ true
-  new_features =
-      ap (are_new_after []) (case_features ∙ names_of_document) ∙ sym (are_new_is (feature_names_in d))
-      ∙ names_are_new (features_in d) (line_features (line_in d) (thin_passing_parts d passes).line)
-
-  features_of_line : case.features ≡ feature_names (bundle_of d).line
-  features_of_line =
-      case_features ∙ sym (thin_feature_names (thin_bundle d).root (thin_bundle d).others)
-      ∙ ap (λ b. feature_names b.line) (sym (thin_is_bundle d passes))
-
-  derived_is_direct : (w : List Bool) → length w ≡ length case.features → derived_at (case_document case) w ≡ direct_at (bundle_of d) w
-  derived_is_direct w l =
-      ap (λ k. derived_at k w) is ∙ thin_derives_as_direct (thin_bundle d) w (l ∙ ap length case_features)
-      ∙ ap (λ b. direct_at b w) (sym (thin_is_bundle d passes))
-
-  module _ (name chosen : List ℕ) (features : List (List ℕ)) (same : features ≡ case.features) where
-    abbrev named : List (List ℕ) → Configuration
-    named fs = configured fs name chosen
-
-    pub text_answered : (w : List Bool) (a : Answer) → IsWorldOf (is_unread building_cases name) (configured features name chosen) w → length w ≡ length case.features
-        → of_derivation (derived_at (case_document case) w) ≡ a → AnswersProduct d name chosen a
-    text_answered w a i l h =
-        world_answers (products_at d) (is_unread building_cases name) (configured (feature_names (bundle_of d).line) name chosen) w a
-        (subst (λ fs. IsWorldOf (is_unread building_cases name) (named fs) w) (same ∙ features_of_line) i)
-        (valid_or_not (is_valid (bundle_of d).line w) a _ (sym h ∙ ap of_derivation (derived_is_direct w l)))
-
-    pub text_refused : (w : List Bool) (s : Status) → IsWorldOf (is_unread building_cases name) (configured features name chosen) w → length w ≡ length case.features
-        → Refuses (λ a. of_derivation (derived_at (case_document case) w) ≡ a) s → Refuses (AnswersProduct d name chosen) s
-    text_refused w s i l h =
-        refuses_by (λ a. of_derivation (derived_at (case_document case) w) ≡ a) (AnswersProduct d name chosen) (λ a. text_answered w a i l) s h
-
-    pub text_stops : (s : Status) → StopsConfiguration (is_unread building_cases name) (configured features name chosen) s → Refuses (AnswersProduct d name chosen) s
-    text_stops s h =
-        config_refuses (products_at d) (is_unread building_cases name) (configured (feature_names (bundle_of d).line) name chosen) s
-        (subst (λ fs. StopsConfiguration (is_unread building_cases name) (named fs) s) (same ∙ features_of_line) h)

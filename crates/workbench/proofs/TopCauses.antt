@@ -12,7 +12,7 @@ use Rattle.workbench.specs.declared.status.Status.{Status}
 use Rattle.workbench.specs.declared.status.Status.TheVariants as status
 use Rattle.workbench.specs.StatusView.{status_view}
 use Rattle.workbench.specs.BuildingStage.{building_cases}
-use Rattle.workbench.specs.Limits.{IsOpenedWith, IsShutBut, LimitAt, OpenedWith}
+use Rattle.workbench.specs.Limits.{IsOpenedWith, IsShutBut, BuildsFewFeatures, LimitAt, OpenedWith}
 use Rattle.workbench.specs.Run.{shelf_of, AnswersTask, StopsTask, Stops, Printed}
 
 -- ---- what is said
@@ -61,6 +61,7 @@ module _ (words : List (List ℕ)) (before after : Outside) (task : Task) (limit
     cause = h.reached.cause;
     opened = h.reached.opened;
     with_limit = h.reached.with_limit;
+    few = h.reached.few;
   }
   words_stop (status.BigCase entries) h = record { answer = words_answered _ h }
   words_stop (status.TooLong file) h = record {
@@ -126,6 +127,10 @@ module _ (words : List (List ℕ)) (before after : Outside) (old new : Diagrams)
     is = a.is;
   }
 
+  few_on_shelf : (task : Task) → BuildsFewFeatures building_cases task before
+      → BuildsFewFeatures building_cases task (shelf_of before.holds before.faults before.next before.given)
+  few_on_shelf task x = record { name = x.name; builds = x.builds; bytes = x.bytes; told = x.told; bundle = x.bundle }
+
   cause_outside : (s : Status) → Stops words (shelf_of before.holds before.faults before.next before.given) (shelf_of after.holds after.faults after.next after.given) old new s
       → Cause building_cases words before after (LimitAt building_cases words before old new) (status_line (status_view s)) (status_view s)
   cause_outside status.Done h = absurd h
@@ -143,6 +148,7 @@ module _ (words : List (List ℕ)) (before after : Outside) (old new : Diagrams)
     cause = h.cause;
     opened = h.opened;
     with_limit = h.with_limit;
+    few = λ x. h.few (few_on_shelf h.invocation.task x);
   }
   cause_outside (status.BigCase entries) h = record { answer = answered_outside _ h.answer }
   cause_outside (status.TooLong file) h = record {

@@ -3,14 +3,8 @@ pub mod WordsView
 pub mod StatusView
 pub mod BuildingStage
 pub mod Limits
-pub mod ItemNames
+pub mod BundleView
 pub mod Run
 pub mod Readings
 pub mod Stopped
-pub mod HoleTexts
-pub mod ThinParts
-pub mod ThinWorlds
-pub mod ThinLifted
-pub mod ThinConditions
-pub mod ThinDocuments
-pub mod ThinView
+pub mod Products

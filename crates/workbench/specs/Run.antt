@@ -88,10 +88,10 @@ Refuses Is (status.NodeLimit used) = ⊥
 Refuses Is status.WriteFault = ⊥
 Refuses Is s = Is (refusal (status_view s))
 
--- why there is no built case: the limit was reached, or else this is the answer
-abbrev pub StopsBuilding : (limit : ℕ) → (old new : Diagrams) → (Answer → Type 0) → Status → Type 0
-StopsBuilding limit old new Is (status.NodeLimit used) = IsAtLimit limit old new used
-StopsBuilding limit old new Is s = Refuses Is s
+-- why there is no built case: the limit was reached, which over few features is less than always enough, or else this is the answer
+abbrev pub StopsBuilding : (limit : ℕ) → (Few : Type 0) → (old new : Diagrams) → (Answer → Type 0) → Status → Type 0
+StopsBuilding limit Few old new Is (status.NodeLimit used) = IsAtLimit limit Few old new used
+StopsBuilding limit Few old new Is s = Refuses Is s
 
 -- the answer of a task to the bytes of its files
 pub record AnswersTask (task : Task) (before : Outside) (answer : Answer) : Type 0 where
@@ -103,7 +103,7 @@ pub record AnswersTask (task : Task) (before : Outside) (answer : Answer) : Type
 abbrev pub StopsTask : Task → (limit : ℕ) → (before after : Outside) → (old new : Diagrams) → Status → Type 0
 StopsTask task limit before after old new (status.ReadFault k) = NotReadOf (files_of task) before after k
 StopsTask task limit before after old new (status.TooLong k) = IsTooLongOf (files_of task) before after k
-StopsTask task limit before after old new (status.NodeLimit used) = IsTaskAtLimit task limit before old new used
+StopsTask task limit before after old new (status.NodeLimit used) = IsTaskAtLimit building_cases task limit before old new used
 StopsTask task limit before after old new s = Refuses (AnswersTask task before) s
 
 -- a status that comes before anything is written, with its cause

@@ -1,28 +1,23 @@
 //! From the bytes of a bundle to the bytes of its case, over diagrams that are opened for it.
 
-ghost use Rattle.std.specs.Prelude.{◌≡◌, ◌∷◌, [], IfOk, IfErr, true, length};
+ghost use Rattle.std.specs.Prelude.{◌≡◌, ◌≤◌, ◌∷◌, [], IfOk, IfErr, OnOk, length};
+ghost use Rattle.meaning.specs.Features.{feature_names};
 ghost use Rattle.meaning.specs.Words.{Build};
-ghost use Rattle.meaning.specs.Answers.{Prints, IsAnswer, IsBuildAnswer, ShowsCase};
-ghost use Rattle.meaning.specs.Derivation.{bundle_of};
-ghost use Rattle.meaning.specs.StrategyTests.{thin_bundle_passes};
-ghost use Rattle.doc_tree.specs.View.{document};
-ghost use Rattle.workbench.specs.ThinView.{case_document};
+ghost use Rattle.meaning.specs.Answers.{Prints, IsAnswer, IsBuildAnswer, ShowsCase, bundle_in};
 ghost use Rattle.workbench.specs.BuildingStage.{building_cases};
-ghost use Rattle.workbench.specs.Limits.{IsLimit, IsOpenedWith, diagrams_of};
+ghost use Rattle.workbench.specs.BundleView.{bundle_view, IsReadBundle};
+ghost use Rattle.workbench.specs.Limits.{IsLimit, IsOpenedWith, HasFewFeatures, diagrams_of};
+ghost use Rattle.workbench.specs.Products.{HasProducts, SameLimits, StopsOver};
 ghost use Rattle.workbench.specs.Run.{StopsBuilding};
-ghost use Rattle.workbench.specs.ThinConditions.{SameLimits};
-ghost use Rattle.workbench.specs.ThinDocuments.{IsThinCase, IsBytesOf, StopsWriting};
 
-use crate::bundle_file::read_bundle;
+use crate::bundle::{Bundle, read_bundle};
+use crate::bundle_rules::NO_VALID_WORLD;
 use crate::status::Status;
-use crate::thin_case::case_of_bundle;
-use crate::thin_conditions::conditions_of;
-use crate::thin_data::ThinCase;
-use crate::thin_lifted::lifted;
 use conditions::Diagrams;
-use doc_tree::Doc;
 use lifted_case::write_case;
+use lifting::instantiate;
 use std::alloc::Global;
+use worlds::{Worlds, condition};
 
 /// The case of the bundle in a file of this name, or why there is none. The diagrams are opened with the limit once the bundle has kept its
 /// rules.
@@ -36,44 +31,83 @@ pub fn build(
     requires limit { IsLimit limit }
     requires shut { d.old.region.limit ≡ 0 }
     ensures built { IfOk result (λ v. IsAnswer building_cases (Build name.now) (bytes.now ∷ []) (Prints v.items)) }
-    ensures stopped { IfErr result (StopsBuilding limit (diagrams_of d.old) (diagrams_of d.new) (IsAnswer building_cases (Build name.now) (bytes.now ∷ []))) }
+    ensures stopped { IfErr result (StopsBuilding limit (HasFewFeatures (bundle_in building_cases name.now bytes.now)) (diagrams_of d.old) (diagrams_of d.new)
+        (IsAnswer building_cases (Build name.now) (bytes.now ∷ []))) }
     ensures opened { IsOpenedWith limit (diagrams_of d.new) }
 {
     let bundle = read_bundle(alloc, name, bytes)?;
     build_bundle(alloc, &bundle, limit, d)
 }
 
-/// The bytes of the case of a thin bundle.
+/// The bytes of the case of a bundle.
 fn build_bundle(
     alloc: Global,
-    bundle: &Doc,
+    bundle: &Bundle,
     limit: u32,
     d: &mut Diagrams,
 ) -> Result<Vec<u8>, Status>
-    requires passes { thin_bundle_passes (document bundle.now) ≡ true }
+    requires read { IsReadBundle bundle.now }
     requires limit { IsLimit limit }
     requires shut { d.old.region.limit ≡ 0 }
-    ensures built { IfOk result (λ v. IsBuildAnswer building_cases (bundle_of (document bundle.now)) ShowsCase (Prints v.items)) }
-    ensures stopped { IfErr result (StopsBuilding limit (diagrams_of d.old) (diagrams_of d.new)
-        (IsBuildAnswer building_cases (bundle_of (document bundle.now)) ShowsCase)) }
+    ensures built { IfOk result (λ v. IsBuildAnswer building_cases (bundle_view bundle.now) ShowsCase (Prints v.items)) }
+    ensures stopped { IfErr result (StopsBuilding limit (length (feature_names (bundle_view bundle.now).line) ≤ 4) (diagrams_of d.old) (diagrams_of d.new)
+        (IsBuildAnswer building_cases (bundle_view bundle.now) ShowsCase)) }
     ensures opened { IsOpenedWith limit (diagrams_of d.new) }
 {
-    let case = case_of_bundle(alloc, bundle)?;
-    d.start(alloc, limit, case.features.list().len() as u16)?;
-    case_bytes(alloc, &case, d)
+    d.start(alloc, limit, bundle.line.count())?;
+    let answer = built_over(alloc, bundle, d);
+    let _refused = d.refused();
+    answer
 }
 
-/// The bytes of a thin case, whose conditions are made in diagrams over its features.
-fn case_bytes(alloc: Global, case: &ThinCase, d: &mut Diagrams) -> Result<Vec<u8>, Status>
-    requires thin { IsThinCase case.now }
+/// The bytes of the case, over diagrams that have been opened for the features of the line.
+fn built_over(alloc: Global, bundle: &Bundle, d: &mut Diagrams) -> Result<Vec<u8>, Status>
+    requires read { IsReadBundle bundle.now }
     requires all_worlds { d.old.valid ≡ record { 0 = 1 } }
-    requires features { d.old.region.vars ≡ length case.now.features }
-    ensures bytes { IfOk result (λ v. IsBytesOf (case_document case.now) v.items) }
-    ensures stopped { IfErr result (StopsWriting (case_document case.now) d.old d.new) }
+    requires features { d.old.region.vars ≡ length bundle.now.line.features }
+    ensures built { IfOk result (λ v. IsBuildAnswer building_cases (bundle_view bundle.now) ShowsCase (Prints v.items)) }
+    ensures stopped { IfErr result (StopsOver (bundle_view bundle.now) d.old d.new) }
     ensures kept { SameLimits d.old d.new }
 {
-    let conditions = conditions_of(alloc, case, d)?;
-    let lifted = lifted(alloc, case, &conditions)?;
-    let bytes = write_case(alloc, &lifted, d)?;
+    restrict_to_products(alloc, bundle, d)?;
+    case_bytes(alloc, bundle, d)
+}
+
+/// Leaves the valid worlds of the line.
+fn restrict_to_products(alloc: Global, bundle: &Bundle, d: &mut Diagrams) -> Result<(), Status>
+    requires all_worlds { d.old.valid ≡ record { 0 = 1 } }
+    requires features { d.old.region.vars ≡ length bundle.now.line.features }
+    ensures products { OnOk result (HasProducts (bundle_view bundle.now) d.new) }
+    ensures stopped { IfErr result (StopsOver (bundle_view bundle.now) d.old d.new) }
+    ensures kept { SameLimits d.old d.new }
+{
+    let expression = bundle.line.expr(alloc)?;
+    let valid = condition(&expression, d)?;
+    if d.is_never(valid) {
+        return Err(Status::BadBundle(NO_VALID_WORLD));
+    }
+    d.restrict(valid);
+    Ok(())
+}
+
+/// The bytes of the case, whose conditions are made in diagrams over the products of the line.
+fn case_bytes(alloc: Global, bundle: &Bundle, d: &mut Diagrams) -> Result<Vec<u8>, Status>
+    requires read { IsReadBundle bundle.now }
+    requires products { HasProducts (bundle_view bundle.now) d.old }
+    ensures built { IfOk result (λ v. IsBuildAnswer building_cases (bundle_view bundle.now) ShowsCase (Prints v.items)) }
+    ensures stopped { IfErr result (StopsOver (bundle_view bundle.now) d.old d.new) }
+    ensures kept { SameLimits d.old d.new }
+{
+    let case = instantiate(
+        alloc,
+        bundle.title.text(),
+        bundle.line.features(),
+        &bundle.model,
+        bundle.templates.list(),
+        d,
+    )?;
+    // The nodes are a region, so that a table has fewer rows than there are numbers.
+    let _nodes = d.used();
+    let bytes = write_case(alloc, &case, d)?;
     Ok(bytes)
 }

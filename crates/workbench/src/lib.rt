@@ -18,29 +18,17 @@
 #![tactic(auto)]
 
 mod building;
-mod bundle_file;
+mod bundle;
+mod bundle_rules;
 mod derived_text;
+mod documents;
 mod files;
-mod hole_texts;
-mod item_names;
 mod product_text;
 mod status;
 mod tasks;
 #[cfg(test)]
 mod tests;
 mod texts;
-mod thin_bundle;
-mod thin_case;
-mod thin_conditions;
-mod thin_data;
-mod thin_elements;
-mod thin_lifted;
-mod thin_line;
-mod thin_model;
-mod thin_parts;
-mod thin_pieces;
-mod thin_template;
-mod thin_world;
 mod top;
 mod words;
 mod world;

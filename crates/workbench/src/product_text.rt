@@ -1,28 +1,23 @@
 //! From the bytes of a bundle and of a configuration to the text of the product that the configuration names.
 
-ghost use Rattle.std.specs.Prelude.{◌≡◌, ◌≤◌, ◌∷◌, [], IfOk, IfErr, true, length};
+ghost use Rattle.std.specs.Prelude.{◌≡◌, ◌∷◌, [], IfOk, IfErr, true, length};
+ghost use Rattle.meaning.specs.Features.{is_valid};
 ghost use Rattle.meaning.specs.Words.{Product};
-ghost use Rattle.meaning.specs.Answers.{Prints, IsAnswer, of_derivation};
-ghost use Rattle.meaning.specs.Derivation.{derived_at};
-ghost use Rattle.meaning.specs.StrategyTests.{thin_bundle_passes};
-ghost use Rattle.doc_tree.specs.View.{document};
-ghost use Rattle.workbench.specs.ThinView.{case_document};
+ghost use Rattle.meaning.specs.Answers.{Prints, IsAnswer, product_answer};
+ghost use Rattle.feature_model.specs.Contents.{line_view};
 ghost use Rattle.workbench.specs.BuildingStage.{building_cases};
-ghost use Rattle.workbench.specs.ItemNames.{are_new_after};
+ghost use Rattle.workbench.specs.BundleView.{bundle_view, IsReadBundle};
 ghost use Rattle.workbench.specs.Run.{Refuses};
 ghost use Rattle.workbench.specs.Readings.{AnswersProduct};
 
-use crate::bundle_file::read_bundle;
+use crate::bundle::{Bundle, read_bundle};
 use crate::status::Status;
-use crate::thin_case::case_of_bundle;
-use crate::thin_data::ThinCase;
-use crate::thin_world::{at_world, is_true};
 use crate::world::read_world;
 use case_derive::plain;
 use case_text::text;
-use cond_text::{NameStop, Names};
-use doc_tree::{Doc, NoMemory, Word};
+use lifting::instantiate;
 use std::alloc::Global;
+use worlds::One;
 
 /// The text of the product of a bundle that the configuration in a file of this name names, or why there is none.
 pub fn product(
@@ -39,58 +34,38 @@ pub fn product(
     product_of(alloc, &bundle, name, chosen)
 }
 
-/// The text of the product of a thin bundle.
-fn product_of(alloc: Global, bundle: &Doc, name: &str, chosen: &[u8]) -> Result<Vec<u8>, Status>
-    requires { thin_bundle_passes (document bundle.now) ≡ true }
-    ensures text { IfOk result (λ v. AnswersProduct (document bundle.now) name.now chosen.now (Prints v.items)) }
-    ensures refused { IfErr result (Refuses (AnswersProduct (document bundle.now) name.now chosen.now)) }
+/// The text of the product of a bundle that the configuration names.
+fn product_of(alloc: Global, bundle: &Bundle, name: &str, chosen: &[u8]) -> Result<Vec<u8>, Status>
+    requires { IsReadBundle bundle.now }
+    ensures text { IfOk result (λ v. AnswersProduct (bundle_view bundle.now) name.now chosen.now (Prints v.items)) }
+    ensures refused { IfErr result (Refuses (AnswersProduct (bundle_view bundle.now) name.now chosen.now)) }
 {
-    let case = case_of_bundle(alloc, bundle)?;
-    let features = names_of(alloc, case.features.list())?;
-    let world = read_world(alloc, name, chosen, &features)?;
-    product_text(alloc, &case, features, world.list())
-}
-
-/// The texts as names.
-pub fn names_of(alloc: Global, texts: &[Word]) -> Result<Names, NoMemory>
-    requires few { length texts.now ≤ 256 }
-    requires each_once { are_new_after [] texts.now ≡ true }
-    ensures { IfOk result (λ names. names ≡ texts.now) }
-{
-    let mut names = Names::new(alloc);
-    'texts: for text in texts {
-        match names.add(text.text()) {
-            Ok(_) => {}
-            Err(NameStop::Repeated(_)) => unreachable!(),
-            Err(NameStop::NoMemory) => return Err(NoMemory),
-        }
-    }
-    Ok(names)
-}
-
-/// The text of the case at a world, which has one truth value for each of its features.
-fn product_text(
-    alloc: Global,
-    case: &ThinCase,
-    features: Names,
-    world: &[bool],
-) -> Result<Vec<u8>, Status>
-    requires features { features ≡ case.now.features }
-    requires world { length world.now ≡ length case.now.features }
-    ensures text { IfOk result (λ v. of_derivation (derived_at (case_document case.now) world.now) ≡ Prints v.items) }
-    ensures refused { IfErr result (Refuses (λ a. of_derivation (derived_at (case_document case.now) world.now) ≡ a)) }
-{
-    if !is_true(world, 0) {
+    let world = read_world(alloc, name, chosen, bundle.line.features())?;
+    if bundle.line.valid(world.list()).is_err() {
         return Err(Status::NotValid);
     }
-    let lifted = at_world(alloc, case, features, world)?;
-    let product = plain(alloc, &lifted)?;
-    let bytes = text(
+    product_text(alloc, bundle, world.list())
+}
+
+/// The text of the product at a valid world.
+fn product_text(alloc: Global, bundle: &Bundle, world: &[bool]) -> Result<Vec<u8>, Status>
+    requires read { IsReadBundle bundle.now }
+    requires length { length world.now ≡ length bundle.now.line.features }
+    requires valid { is_valid (line_view bundle.now.line) world.now ≡ true }
+    ensures text { IfOk result (λ v. product_answer building_cases (bundle_view bundle.now) world.now ≡ Prints v.items) }
+    ensures refused { IfErr result (Refuses (λ a. product_answer building_cases (bundle_view bundle.now) world.now ≡ a)) }
+{
+    let _few = bundle.line.count();
+    let mut one = One::new(world);
+    let case = instantiate(
         alloc,
-        &product,
-        lifted.title.text(),
-        &lifted.features,
-        world,
+        bundle.title.text(),
+        bundle.line.features(),
+        &bundle.model,
+        bundle.templates.list(),
+        &mut one,
     )?;
+    let product = plain(alloc, &case)?;
+    let bytes = text(alloc, &product, case.title.text(), &case.features, world)?;
     Ok(bytes)
 }

@@ -3,14 +3,17 @@ ghost use Rattle.meaning.specs.Statuses as meaning;
 ghost use Rattle.workbench.specs.StatusView.{status_view};
 ghost use Rattle.doc_tree.specs.Places.{fault_of};
 ghost use Rattle.lifted_case.specs.CaseView.{fault_view};
-ghost use Rattle.workbench.specs.Stopped.{status_of_case_stop, status_of_config_stop, status_of_cut_stop, status_of_write_stop};
+ghost use Rattle.workbench.specs.Stopped.{status_of_case_stop, status_of_config_stop, status_of_cut_stop, status_of_write_stop, status_of_line_stop, status_of_model_stop, status_of_template_stop, status_of_lift_stop};
 ghost use Rattle.workbench.specs.declared.status.Status.TheVariants as variant;
 
+use annotated_model::ModelStop;
 use case_derive::CutStop;
 use doc_tree::{BundleFault, NoMemory};
-use feature_model::ConfigStop;
+use feature_model::{ConfigStop, LineStop};
 use lifted_case::{CaseFault, CaseStop, ReadCaseStop};
+use lifting::LiftStop;
 use std::alloc::{AllocError, Global};
+use templates::TemplateStop;
 use worlds::NodeLimit;
 
 /// How a call ended.
@@ -40,7 +43,7 @@ pub enum Status {
     WriteFault,
     /// There is no memory.
     NoMemory,
-    /// The bundle breaks no rule that is answered, and is not of the form that is built.
+    /// The bundle breaks no rule, and a template of it has a solution.
     Unsupported,
 }
 
@@ -94,6 +97,51 @@ impl From<CaseStop> for Status {
         match stop {
             CaseStop::BigCase => Status::BigCase(false),
             CaseStop::NoMemory => Status::NoMemory,
+        }
+    }
+}
+
+impl From<LineStop> for Status {
+    ghost from_gives = { λ stop status. status ≡ status_of_line_stop stop };
+
+    fn from(stop: LineStop) -> Status {
+        match stop {
+            LineStop::Fault(fault) => Status::BadBundle(fault),
+            LineStop::NoMemory => Status::NoMemory,
+        }
+    }
+}
+
+impl From<ModelStop> for Status {
+    ghost from_gives = { λ stop status. status ≡ status_of_model_stop stop };
+
+    fn from(stop: ModelStop) -> Status {
+        match stop {
+            ModelStop::Fault(fault) => Status::BadBundle(fault),
+            ModelStop::NoMemory => Status::NoMemory,
+        }
+    }
+}
+
+impl From<TemplateStop> for Status {
+    ghost from_gives = { λ stop status. status ≡ status_of_template_stop stop };
+
+    fn from(stop: TemplateStop) -> Status {
+        match stop {
+            TemplateStop::Fault(fault) => Status::BadBundle(fault),
+            TemplateStop::NoMemory => Status::NoMemory,
+        }
+    }
+}
+
+impl From<LiftStop> for Status {
+    ghost from_gives = { λ stop status. status ≡ status_of_lift_stop stop };
+
+    fn from(stop: LiftStop) -> Status {
+        match stop {
+            LiftStop::NodeLimit(stop) => Status::NodeLimit(stop.used),
+            LiftStop::BigCase => Status::BigCase(true),
+            LiftStop::NoMemory => Status::NoMemory,
         }
     }
 }

@@ -2,8 +2,12 @@
 
 mod built;
 mod derived;
+mod entries;
+mod faulty;
 mod limits;
+mod lines;
 mod outside_faults;
+mod queries;
 mod refused;
 
 ghost use Rattle.std.specs.Prelude.{◌<◌};

@@ -10,7 +10,7 @@ use std::alloc::{AllocError, Global};
 use std::test::Fail;
 
 /// Bundles with the cases that they become, to the byte.
-const BUILT: [(&str, &str); 7] = [
+const BUILT: [(&str, &str); 8] = [
     (SMALLEST, SMALLEST_CASE),
     // other members, another order, and what counts as absent
     (
@@ -29,6 +29,11 @@ const BUILT: [(&str, &str); 7] = [
     ),
     // a strategy over two elements
     (ROW, ROW_CASE),
+    // the same with a space in its query
+    (
+        "{\"bundle\":1,\"title\":\"Row\",\"line\":{\"features\":[{\"name\":\"R\"},{\"name\":\"A\",\"parent\":\"R\"},{\"name\":\"B\",\"parent\":\"R\"}]},\"model\":{\"types\":[{\"name\":\"N\"}],\"kinds\":[{\"name\":\"k\",\"from\":\"N\",\"to\":\"N\"}],\"elements\":[{\"name\":\"x\",\"type\":\"N\",\"when\":\"A\"},{\"name\":\"y\",\"type\":\"N\",\"when\":\"B\"}]},\"templates\":[{\"name\":\"Top\",\"nodes\":[{\"id\":\"g\",\"kind\":\"goal\",\"text\":\"All\"},{\"id\":\"s\",\"kind\":\"strategy\",\"under\":\"g\",\"text\":\"Over {#}\",\"each\":\"n : N\"},{\"id\":\"c\",\"kind\":\"goal\",\"under\":\"s\",\"text\":\"Handle {n.name}\"}]}]}",
+        ROW_CASE,
+    ),
     // no element
     (
         "{\"bundle\":1,\"title\":\"Row\",\"line\":{\"features\":[{\"name\":\"R\"},{\"name\":\"A\",\"parent\":\"R\"}]},\"model\":{\"types\":[{\"name\":\"N\"},{\"name\":\"M\"}],\"elements\":[]},\"templates\":[{\"name\":\"Top\",\"nodes\":[{\"id\":\"g\",\"kind\":\"goal\",\"text\":\"All\"},{\"id\":\"s\",\"kind\":\"strategy\",\"under\":\"g\",\"text\":\"Over {#}\",\"each\":\"n: N\"},{\"id\":\"c\",\"kind\":\"goal\",\"under\":\"s\",\"text\":\"Handle {n.name}\"}]}]}",
@@ -38,22 +43,22 @@ const BUILT: [(&str, &str); 7] = [
     (MIXED, MIXED_CASE),
 ];
 
-/// Bundles that are refused, with their status and its line.
-const REFUSED: [(&str, u8, &str); 21] = [
+/// Bundles that are refused, with their status and its line: those that break a rule, and one with a solution.
+const REFUSED: [(&str, u8, &str); 17] = [
     (
         "{\"bundle\":1,\"title\":\"T\",\"line\":{\"features\":[{\"name\":\"Raaaaaaaaaaaaaaaaaaaaaaaaaaaaaaaaaaaaaaaaaaaaaaaaaaaaaaaaaaaaaaab\"}]},\"templates\":[{\"name\":\"Top\",\"nodes\":[{\"id\":\"g\",\"kind\":\"goal\",\"text\":\"Safe\"}]}]}",
-        16,
-        "plcase: not built yet\n",
+        3,
+        "plcase: bundle rule B3 at features 0 0 0\n",
     ),
     (
         "{\"bundle\":1,\"title\":\"ttttttttttttttttttttttttttttttttttttttttttttttttttttttttttttttttttttttttttttttttttttttttttttttttttttttttttttttttttttttttttttttttttttttttttttttttttttttttttttttttttttttttttttttttttttttttttttttttttttttttttttttttttttttttttttttttttttttttttttttttttttttttttttttttttttttttttttttttttttttttttttttttttttttttttttttttttttttttttttttttttttttttttttttttttttttttttttttttttttttttttttttttttttttttttttttttttttttttttttttttttttttttttttttttttttttttttttttttttttttttttttttttttttttttttttttttttttttttttttttttttttttttttttttttttttttttttttttttt\",\"line\":{\"features\":[{\"name\":\"R\"}]},\"templates\":[{\"name\":\"Top\",\"nodes\":[{\"id\":\"g\",\"kind\":\"goal\",\"text\":\"Safe\"}]}]}",
-        16,
-        "plcase: not built yet\n",
+        3,
+        "plcase: bundle rule B4 at bundle 0 0 0\n",
     ),
     (
         "{\"bundle\":1,\"title\":\"T\",\"line\":{\"features\":[{\"name\":\"R\"}]},\"templates\":[{\"name\":\"Top\",\"nodes\":[{\"id\":\"g\",\"kind\":\"goal\",\"text\":\"ttttttttttttttttttttttttttttttttttttttttttttttttttttttttttttttttttttttttttttttttttttttttttttttttttttttttttttttttttttttttttttttttttttttttttttttttttttttttttttttttttttttttttttttttttttttttttttttttttttttttttttttttttttttttttttttttttttttttttttttttttttttttttttttttttttttttttttttttttttttttttttttttttttttttttttttttttttttttttttttttttttttttttttttttttttttttttttttttttttttttttttttttttttttttttttttttttttttttttttttttttttttttttttttttttttttttttttttttttttttttttttttttttttttttttttttttttttttttttttttttttttttttttttttttttttttttttttttttt\"}]}]}",
-        16,
-        "plcase: not built yet\n",
+        3,
+        "plcase: bundle rule B4 at nodes 0 0 0\n",
     ),
     ("", 3, "plcase: bundle rule B1 at document 0 0 0\n"),
     ("{", 3, "plcase: bundle rule B1 at document 0 0 0\n"),
@@ -64,79 +69,59 @@ const REFUSED: [(&str, u8, &str); 21] = [
         "plcase: bundle rule B1 at document 0 0 0\n",
     ),
     (
-        "{\"bundle\":2,\"title\":\"T\",\"line\":{\"features\":[{\"name\":\"R\"}]},\"templates\":[{\"name\":\"Top\",\"nodes\":[{\"id\":\"g\",\"kind\":\"goal\",\"text\":\"Safe\"}]}]}",
-        16,
-        "plcase: not built yet\n",
-    ),
-    (
         "{\"bundle\":1,\"title\":\"T\",\"line\":{\"features\":[{\"name\":\"R\"}]},\"templates\":[{\"name\":\"Top\",\"nodes\":[{\"id\":\"g\",\"kind\":\"goal\",\"text\":\"Sa{fe\"}]}]}",
-        16,
-        "plcase: not built yet\n",
+        3,
+        "plcase: bundle rule B27 at nodes 0 0 2\n",
     ),
     (
         "{\"bundle\":1,\"title\":\"T\",\"line\":{\"features\":[{\"name\":\"R\"}]},\"templates\":[{\"name\":\"Top\",\"nodes\":[{\"id\":\"g\",\"kind\":\"goal\",\"text\":\"Sa\\tfe\"}]}]}",
-        16,
-        "plcase: not built yet\n",
-    ),
-    (
-        "{\"bundle\":1,\"title\":\"T\",\"line\":{\"features\":[{\"name\":\"true\"}]},\"templates\":[{\"name\":\"Top\",\"nodes\":[{\"id\":\"g\",\"kind\":\"goal\",\"text\":\"Safe\"}]}]}",
-        16,
-        "plcase: not built yet\n",
+        3,
+        "plcase: bundle rule B4 at nodes 0 0 0\n",
     ),
     (
         "{\"bundle\":1,\"title\":\"T\",\"line\":{\"features\":[{\"name\":\"R\"}]},\"templates\":[{\"name\":\"Top\",\"nodes\":[{\"id\":\"g\",\"kind\":\"context\",\"text\":\"Safe\"}]}]}",
-        16,
-        "plcase: not built yet\n",
+        3,
+        "plcase: bundle rule B24 at nodes 0 0 0\n",
     ),
     (
         "{\"bundle\":1,\"title\":\"T\",\"line\":{\"features\":[{\"name\":\"R\"}]},\"templates\":[{\"name\":\"Top\",\"nodes\":[{\"id\":\"g\",\"kind\":\"goal\",\"guard\":\"\",\"text\":\"Safe\"}]}]}",
-        16,
-        "plcase: not built yet\n",
+        3,
+        "plcase: bundle rule B25 at nodes 0 0 0\n",
     ),
     (
         "{\"bundle\":1,\"title\":\"Row\",\"line\":{\"features\":[{\"name\":\"R\"},{\"name\":\"A\",\"parent\":\"R\"},{\"name\":\"A\",\"parent\":\"R\"}]},\"model\":{\"types\":[{\"name\":\"N\"}],\"kinds\":[{\"name\":\"k\",\"from\":\"N\",\"to\":\"N\"}],\"elements\":[{\"name\":\"x\",\"type\":\"N\",\"when\":\"A\"},{\"name\":\"y\",\"type\":\"N\",\"when\":\"B\"}]},\"templates\":[{\"name\":\"Top\",\"nodes\":[{\"id\":\"g\",\"kind\":\"goal\",\"text\":\"All\"},{\"id\":\"s\",\"kind\":\"strategy\",\"under\":\"g\",\"text\":\"Over {#}\",\"each\":\"n: N\"},{\"id\":\"c\",\"kind\":\"goal\",\"under\":\"s\",\"text\":\"Handle {n.name}\"}]}]}",
-        16,
-        "plcase: not built yet\n",
-    ),
-    (
-        "{\"bundle\":1,\"title\":\"Row\",\"line\":{\"features\":[{\"name\":\"R\"},{\"name\":\"A\",\"parent\":\"R\"},{\"name\":\"B\",\"parent\":\"R\"}]},\"model\":{\"types\":[{\"name\":\"N\"}],\"kinds\":[{\"name\":\"k\",\"from\":\"N\",\"to\":\"N\"}],\"elements\":[{\"name\":\"x\",\"type\":\"N\",\"when\":\"A\"},{\"name\":\"y\",\"type\":\"N\",\"when\":\"B & A\"}]},\"templates\":[{\"name\":\"Top\",\"nodes\":[{\"id\":\"g\",\"kind\":\"goal\",\"text\":\"All\"},{\"id\":\"s\",\"kind\":\"strategy\",\"under\":\"g\",\"text\":\"Over {#}\",\"each\":\"n: N\"},{\"id\":\"c\",\"kind\":\"goal\",\"under\":\"s\",\"text\":\"Handle {n.name}\"}]}]}",
-        16,
-        "plcase: not built yet\n",
+        3,
+        "plcase: bundle rule B5 at features 2 0 0\n",
     ),
     (
         "{\"bundle\":1,\"title\":\"Row\",\"line\":{\"features\":[{\"name\":\"R\"},{\"name\":\"A\",\"parent\":\"R\"},{\"name\":\"B\",\"parent\":\"R\"}]},\"model\":{\"types\":[{\"name\":\"N\"}],\"kinds\":[{\"name\":\"k\",\"from\":\"N\",\"to\":\"N\"}],\"elements\":[{\"name\":\"x\",\"type\":\"N\",\"when\":\"A\"},{\"name\":\"y\",\"type\":\"N\",\"when\":\"C\"}]},\"templates\":[{\"name\":\"Top\",\"nodes\":[{\"id\":\"g\",\"kind\":\"goal\",\"text\":\"All\"},{\"id\":\"s\",\"kind\":\"strategy\",\"under\":\"g\",\"text\":\"Over {#}\",\"each\":\"n: N\"},{\"id\":\"c\",\"kind\":\"goal\",\"under\":\"s\",\"text\":\"Handle {n.name}\"}]}]}",
-        16,
-        "plcase: not built yet\n",
-    ),
-    (
-        "{\"bundle\":1,\"title\":\"Row\",\"line\":{\"features\":[{\"name\":\"R\"},{\"name\":\"A\",\"parent\":\"R\"},{\"name\":\"B\",\"parent\":\"R\",\"kind\":\"mandatory\"}]},\"model\":{\"types\":[{\"name\":\"N\"}],\"kinds\":[{\"name\":\"k\",\"from\":\"N\",\"to\":\"N\"}],\"elements\":[{\"name\":\"x\",\"type\":\"N\",\"when\":\"A\"},{\"name\":\"y\",\"type\":\"N\",\"when\":\"B\"}]},\"templates\":[{\"name\":\"Top\",\"nodes\":[{\"id\":\"g\",\"kind\":\"goal\",\"text\":\"All\"},{\"id\":\"s\",\"kind\":\"strategy\",\"under\":\"g\",\"text\":\"Over {#}\",\"each\":\"n: N\"},{\"id\":\"c\",\"kind\":\"goal\",\"under\":\"s\",\"text\":\"Handle {n.name}\"}]}]}",
-        16,
-        "plcase: not built yet\n",
-    ),
-    (
-        "{\"bundle\":1,\"title\":\"Row\",\"line\":{\"features\":[{\"name\":\"R\"},{\"name\":\"A\",\"parent\":\"R\"},{\"name\":\"B\",\"parent\":\"R\"}]},\"model\":{\"types\":[{\"name\":\"N\"}],\"kinds\":[{\"name\":\"k\",\"from\":\"N\",\"to\":\"N\"}],\"elements\":[{\"name\":\"x\",\"type\":\"N\",\"when\":\"A\"},{\"name\":\"y\",\"type\":\"N\",\"when\":\"B\"}]},\"templates\":[{\"name\":\"Top\",\"nodes\":[{\"id\":\"g\",\"kind\":\"goal\",\"text\":\"All\"},{\"id\":\"s\",\"kind\":\"strategy\",\"under\":\"g\",\"text\":\"Over {#}\",\"each\":\"n : N\"},{\"id\":\"c\",\"kind\":\"goal\",\"under\":\"s\",\"text\":\"Handle {n.name}\"}]}]}",
-        16,
-        "plcase: not built yet\n",
+        3,
+        "plcase: bundle rule B12 at elements 1 0 0\n",
     ),
     (
         "{\"bundle\":1,\"title\":\"Row\",\"line\":{\"features\":[{\"name\":\"R\"},{\"name\":\"A\",\"parent\":\"R\"},{\"name\":\"B\",\"parent\":\"R\"}]},\"model\":{\"types\":[{\"name\":\"N\"}],\"kinds\":[{\"name\":\"k\",\"from\":\"N\",\"to\":\"N\"}],\"elements\":[{\"name\":\"x\",\"type\":\"N\",\"when\":\"A\"},{\"name\":\"y\",\"type\":\"N\",\"when\":\"B\"}]},\"templates\":[{\"name\":\"Top\",\"nodes\":[{\"id\":\"g\",\"kind\":\"goal\",\"text\":\"All\"},{\"id\":\"s\",\"kind\":\"strategy\",\"under\":\"g\",\"text\":\"Over {#}\",\"each\":\"n: N\"},{\"id\":\"c\",\"kind\":\"goal\",\"under\":\"s\",\"text\":\"Handle {m.name}\"}]}]}",
-        16,
-        "plcase: not built yet\n",
+        3,
+        "plcase: bundle rule B27 at nodes 0 2 8\n",
     ),
     (
         "{\"bundle\":1,\"title\":\"Row\",\"line\":{\"features\":[{\"name\":\"R\"},{\"name\":\"A\",\"parent\":\"R\"},{\"name\":\"B\",\"parent\":\"R\"}]},\"model\":{\"types\":[{\"name\":\"N\"}],\"kinds\":[{\"name\":\"k\",\"from\":\"N\",\"to\":\"N\"}],\"elements\":[{\"name\":\"x\",\"type\":\"N\",\"when\":\"A\"},{\"name\":\"x\",\"type\":\"N\",\"when\":\"B\"}]},\"templates\":[{\"name\":\"Top\",\"nodes\":[{\"id\":\"g\",\"kind\":\"goal\",\"text\":\"All\"},{\"id\":\"s\",\"kind\":\"strategy\",\"under\":\"g\",\"text\":\"Over {#}\",\"each\":\"n: N\"},{\"id\":\"c\",\"kind\":\"goal\",\"under\":\"s\",\"text\":\"Handle {n.name}\"}]}]}",
-        16,
-        "plcase: not built yet\n",
+        3,
+        "plcase: bundle rule B5 at elements 1 0 0\n",
     ),
     (
         "{\"bundle\":1,\"title\":\"Row\",\"line\":{\"features\":[{\"name\":\"R\"},{\"name\":\"A\",\"parent\":\"R\"},{\"name\":\"B\",\"parent\":\"R\"}]},\"model\":{\"types\":[{\"name\":\"N\"}],\"kinds\":[{\"name\":\"k\",\"from\":\"N\",\"to\":\"N\"}],\"elements\":[{\"name\":\"x\",\"type\":\"N\",\"when\":\"A\"},{\"name\":\"y\",\"type\":\"N\",\"when\":\"B\"}]},\"templates\":[{\"name\":\"Top\",\"nodes\":[{\"id\":\"g\",\"kind\":\"goal\",\"text\":\"All\"},{\"id\":\"s\",\"kind\":\"strategy\",\"under\":\"g\",\"text\":\"Over {#}\",\"each\":\"n: Q\"},{\"id\":\"c\",\"kind\":\"goal\",\"under\":\"s\",\"text\":\"Handle {n.name}\"}]}]}",
+        3,
+        "plcase: bundle rule B26 at nodes 0 1 3\n",
+    ),
+    (
+        "{\"bundle\":1,\"title\":\"T\",\"line\":{\"features\":[{\"name\":\"R\"}]},\"model\":{\"types\":[{\"name\":\"N\"}]},\"templates\":[{\"name\":\"Top\",\"nodes\":[{\"id\":\"g\",\"kind\":\"goal\",\"text\":\"Safe\"},{\"id\":\"n\",\"kind\":\"solution\",\"under\":\"g\",\"text\":\"None\",\"check\":{\"none\":\"n: N\"}}]}]}",
         16,
         "plcase: not built yet\n",
     ),
 ];
 
 #[test]
-fn thin_bundles_become_their_cases(rt: HostRuntime) -> Result<(), Fail> {
+fn bundles_become_their_cases(rt: HostRuntime) -> Result<(), Fail> {
     for (bundle, case) in BUILT {
         let ended = run_build(rt.alloc(), bundle.as_bytes(), 10)?;
         assert_ended(&rt, &ended, 0, case.as_bytes(), "", bundle);
@@ -193,7 +178,11 @@ const WORDS: [(&[&str], u8, &str); 30] = [
         "plcase: bad words\n",
     ),
     (&["build", "none.json"], 13, "plcase: file 0 not read\n"),
-    (&["build", "bundle.toml"], 16, "plcase: not built yet\n"),
+    (
+        &["build", "bundle.toml"],
+        3,
+        "plcase: bundle rule B1 at document 0 0 0\n",
+    ),
     (&["build", "bundle.json", "--nodes", "1048576"], 0, ""),
     (&["derive", "case.json"], 2, "plcase: bad words\n"),
     (&["product", "bundle.json"], 2, "plcase: bad words\n"),
@@ -257,19 +246,11 @@ const WORDS: [(&[&str], u8, &str); 30] = [
     ),
     (
         &["product", "bundle.toml", "chosen.json"],
-        16,
-        "plcase: not built yet\n",
+        3,
+        "plcase: bundle rule B1 at document 0 0 0\n",
     ),
-    (
-        &["product", "bundle.json", "chosen.toml"],
-        16,
-        "plcase: not built yet\n",
-    ),
-    (
-        &["derive", "case.json", "chosen.toml"],
-        16,
-        "plcase: not built yet\n",
-    ),
+    (&["product", "bundle.json", "chosen.toml"], 0, ""),
+    (&["derive", "case.json", "chosen.toml"], 0, ""),
     (
         &["derive", "bundle.toml", "chosen.toml"],
         6,
@@ -355,7 +336,7 @@ fn bundle_of(alloc: Global, features: u32, elements: u32) -> Result<String, Allo
 }
 
 /// Numbers of features and elements, with the status.
-const SIZES: [(u32, u32, u8); 4] = [(256, 2_048, 0), (257, 1, 16), (2, 2_049, 16), (1, 3, 0)];
+const SIZES: [(u32, u32, u8); 4] = [(256, 2_048, 0), (257, 1, 3), (2, 2_049, 3), (1, 3, 0)];
 
 #[test]
 fn lines_and_models_end_at_their_limits(rt: HostRuntime) -> Result<(), Fail> {

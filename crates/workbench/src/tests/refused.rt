@@ -140,8 +140,8 @@ const BUNDLES: [(&str, u8, &str); 3] = [
     ("{", 3, "plcase: bundle rule B1 at document 0 0 0\n"),
     (
         "{\"bundle\":2,\"title\":\"T\",\"line\":{\"features\":[{\"name\":\"R\"}]},\"templates\":[{\"name\":\"Top\",\"nodes\":[{\"id\":\"g\",\"kind\":\"goal\",\"text\":\"Safe\"}]}]}",
-        16,
-        "plcase: not built yet\n",
+        3,
+        "plcase: bundle rule B7 at bundle 0 0 0\n",
     ),
 ];
 

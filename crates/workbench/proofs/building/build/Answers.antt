@@ -1,11 +1,11 @@
+use Rattle.std.proofs.Common.{[], ◌∷◌, ◌≤◌, length}
 use Rattle.std.proofs.lemmas.Result.{IfOk-weaker, IfErr-weaker}
-use Rattle.doc_tree.specs.View.{document}
+use Rattle.meaning.specs.Features.{feature_names}
 use Rattle.meaning.specs.Words.{Build}
-use Rattle.meaning.specs.Answers.{Prints, IsAnswer, IsBuildAnswer, ShowsCase}
-use Rattle.meaning.specs.Derivation.{bundle_of}
-use Rattle.std.proofs.Common.{[], ◌∷◌}
+use Rattle.meaning.specs.Answers.{Prints, IsAnswer, IsBuildAnswer, ShowsCase, bundle_in}
 use Rattle.workbench.specs.BuildingStage.{building_cases}
-use Rattle.workbench.specs.Limits.{diagrams_of}
+use Rattle.workbench.specs.BundleView.{bundle_view}
+use Rattle.workbench.specs.Limits.{HasFewFeatures, diagrams_of}
 use Rattle.workbench.specs.Run.{StopsBuilding}
 use Rattle.workbench.proofs.Exits.{stops_with}
 use Rattle.workbench.proofs.BuildAnswers.{build_answered, bundle_stops, building_stops, shut_is_opened}
@@ -19,17 +19,21 @@ returns-in_err-bundle-clause-stopped c =
 pub returns-in_err-bundle-clause-opened : goal.returns-in_err-bundle-clause-opened
 returns-in_err-bundle-clause-opened c = shut_is_opened c.args.limit c.args.d.now c.requires.shut
 
+pub build_bundle-requires-clause-read : goal.build_bundle-requires-clause-read
+build_bundle-requires-clause-read c = c.in_ok-bundle.ensures.good.read
+
 pub returns-clause-built : goal.returns-clause-built
 returns-clause-built c =
-    let d = document c.in_ok-bundle.bundle in
-    IfOk-weaker c.build_bundle.result (λ v. IsBuildAnswer building_cases (bundle_of d) ShowsCase (Prints v.items)) (λ v. IsAnswer building_cases (Build c.args.name.now) (c.args.bytes.now ∷ []) (Prints v.items))
-    (λ v h. build_answered c.args.name.now c.args.bytes.now d (Prints v.items) c.in_ok-bundle.ensures.good h) c.build_bundle.ensures.built
+    let b = c.in_ok-bundle.bundle in
+    IfOk-weaker c.build_bundle.result (λ v. IsBuildAnswer building_cases (bundle_view b) ShowsCase (Prints v.items))
+    (λ v. IsAnswer building_cases (Build c.args.name.now) (c.args.bytes.now ∷ []) (Prints v.items))
+    (λ v h. build_answered c.args.name.now c.args.bytes.now b (Prints v.items) c.in_ok-bundle.ensures.good h) c.build_bundle.ensures.built
 
 pub returns-clause-stopped : goal.returns-clause-stopped
 returns-clause-stopped c =
-    let d = document c.in_ok-bundle.bundle in
+    let b = c.in_ok-bundle.bundle in
     let old = diagrams_of c.args.d.now in
     let new = diagrams_of c.build_bundle.new.d in
-    IfErr-weaker c.build_bundle.result (StopsBuilding c.args.limit old new (IsBuildAnswer building_cases (bundle_of d) ShowsCase))
-    (StopsBuilding c.args.limit old new (IsAnswer building_cases (Build c.args.name.now) (c.args.bytes.now ∷ [])))
-    (λ s h. building_stops c.args.name.now c.args.bytes.now c.args.limit old new d s c.in_ok-bundle.ensures.good h) c.build_bundle.ensures.stopped
+    IfErr-weaker c.build_bundle.result (StopsBuilding c.args.limit (length (feature_names (bundle_view b).line) ≤ 4) old new (IsBuildAnswer building_cases (bundle_view b) ShowsCase))
+    (StopsBuilding c.args.limit (HasFewFeatures (bundle_in building_cases c.args.name.now c.args.bytes.now)) old new (IsAnswer building_cases (Build c.args.name.now) (c.args.bytes.now ∷ [])))
+    (λ s h. building_stops c.args.name.now c.args.bytes.now c.args.limit old new b s c.in_ok-bundle.ensures.good h) c.build_bundle.ensures.stopped

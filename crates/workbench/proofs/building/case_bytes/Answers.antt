@@ -1,56 +1,78 @@
-use Rattle.std.proofs.Common.{sym, ap, ◌∙◌, subst}
+use Rattle.std.proofs.Common.{sym, ap, ◌∙◌, refl}
 use Rattle.std.specs.Prelude.{Err}
-use Rattle.std.specs.List.{All}
+use Rattle.meaning.specs.Features.{feature_names}
+use Rattle.feature_model.specs.Contents.{line_view}
 use Rattle.conditions.specs.Diagrams.{algebra_of}
-use Rattle.lifted_case.specs.CaseContents.{BreaksNoRule, TextsAreJoined}
-use Rattle.lifted_case.specs.CaseWritten.{conditions_in}
-use Rattle.workbench.specs.ThinConditions.{condition_in}
+use Rattle.lifting.specs.Sites.{templates_of}
+use Rattle.workbench.specs.BundleView.{bundle_view}
 use Rattle.workbench.proofs.Exits.{stops_with}
-use Rattle.workbench.proofs.TextAnswers.{new_features}
-use Rattle.workbench.proofs.ThinLifted.{joined_lifted}
-use Rattle.workbench.proofs.ThinWritten.{some_features, few_features_here, lifted_is_live, lifted_keeps_rules, bytes_are, writing_stops}
+use Rattle.workbench.proofs.ProductWorlds.{kept_limits}
+use Rattle.workbench.proofs.BundleFacts.{listed_templates_fit, names_features, instance_of, products_later, lifting_stops, features_here, live_here, keeps_rules_here, joined_here, prints_here, writing_stops}
 use Rattle.workbench.proofs.building.case_bytes.Goals as goal
 
-pub conditions_of-requires-clause-some : goal.conditions_of-requires-clause-some
-conditions_of-requires-clause-some c = some_features c.args.case.now c.requires.thin
+pub instantiate-requires-clause-names : goal.instantiate-requires-clause-names
+instantiate-requires-clause-names c = names_features c.args.bundle.now c.requires.read c.args.d.now.region.vars c.requires.products.count
 
-pub lifted-requires-clause-few : goal.lifted-requires-clause-few
-lifted-requires-clause-few c = few_features_here c.args.case.now c.requires.thin
+pub instantiate-requires-clause-fit : goal.instantiate-requires-clause-fit
+instantiate-requires-clause-fit c = listed_templates_fit c.args.bundle.now c.requires.read (templates_of c.list.result.now) c.list.ensures
 
-pub lifted-requires-clause-each_once : goal.lifted-requires-clause-each_once
-lifted-requires-clause-each_once c =
-    let t = c.requires.thin in
-    new_features t.document t.passes c.args.case.now t.is
+pub returns-in_err-case-clause-stopped : goal.returns-in_err-case-clause-stopped
+returns-in_err-case-clause-stopped c =
+    let b = c.args.bundle.now in
+    stops_with _ _ _ c.from_residual.ensures.1
+    (lifting_stops (bundle_view b) c.args.d.now c.instantiate.new.w (products_later (bundle_view b) c.args.d.now c.instantiate.new.w c.instantiate.ensures.kept c.requires.products)
+    (templates_of c.list.result.now) c.list.ensures c.in_err-case.field-0.0 c.in_err-case.ensures.stops)
+
+pub returns-in_err-case-clause-kept : goal.returns-in_err-case-clause-kept
+returns-in_err-case-clause-kept c = kept_limits c.args.d.now c.instantiate.new.w c.instantiate.ensures.kept
+
+pub returns-in_err-bytes-clause-kept : goal.returns-in_err-bytes-clause-kept
+returns-in_err-bytes-clause-kept c = kept_limits c.args.d.now c.instantiate.new.w c.instantiate.ensures.kept
+
+pub returns-clause-kept : goal.returns-clause-kept
+returns-clause-kept c = kept_limits c.args.d.now c.instantiate.new.w c.instantiate.ensures.kept
+
+pub write_case-requires-clause-features : goal.write_case-requires-clause-features
+write_case-requires-clause-features c =
+    let b = c.args.bundle.now in
+    let new = c.instantiate.new.w in
+    features_here b c.requires.read new (products_later (bundle_view b) c.args.d.now new c.instantiate.ensures.kept c.requires.products) c.in_ok-case.case
+    (instance_of (algebra_of new) c.in_ok-case.case b.model _ _ _ _ _ _ c.text.ensures c.features.ensures c.list.ensures c.in_ok-case.ensures.lifted)
 
 pub write_case-requires-clause-live : goal.write_case-requires-clause-live
 write_case-requires-clause-live c =
-    let conditions = c.in_ok-conditions.conditions in
-    subst (λ l. All (algebra_of c.conditions_of.new.d).live (conditions_in l)) (sym c.in_ok-lifted.ensures)
-    (lifted_is_live c.args.case.now c.requires.thin c.conditions_of.new.d conditions c.in_ok-conditions.ensures.asked
-    (c.conditions_of.ensures.kept.vars ∙ c.requires.features) c.in_ok-conditions.ensures.named)
+    let b = c.args.bundle.now in
+    let new = c.instantiate.new.w in
+    live_here b c.requires.read new (products_later (bundle_view b) c.args.d.now new c.instantiate.ensures.kept c.requires.products) c.in_ok-case.case
+    (instance_of (algebra_of new) c.in_ok-case.case b.model _ _ _ _ _ _ c.text.ensures c.features.ensures c.list.ensures c.in_ok-case.ensures.lifted)
 
 pub write_case-requires-clause-rules : goal.write_case-requires-clause-rules
 write_case-requires-clause-rules c =
-    let conditions = c.in_ok-conditions.conditions in
-    subst BreaksNoRule (sym c.in_ok-lifted.ensures)
-    (lifted_keeps_rules c.args.case.now c.requires.thin c.conditions_of.new.d conditions c.in_ok-conditions.ensures.asked
-    (c.conditions_of.ensures.kept.vars ∙ c.requires.features) c.in_ok-conditions.ensures.named)
+    let b = c.args.bundle.now in
+    let new = c.instantiate.new.w in
+    keeps_rules_here b c.requires.read new (products_later (bundle_view b) c.args.d.now new c.instantiate.ensures.kept c.requires.products) c.in_ok-case.case
+    (instance_of (algebra_of new) c.in_ok-case.case b.model _ _ _ _ _ _ c.text.ensures c.features.ensures c.list.ensures c.in_ok-case.ensures.lifted)
 
 pub write_case-requires-clause-texts : goal.write_case-requires-clause-texts
 write_case-requires-clause-texts c =
-    subst TextsAreJoined (sym c.in_ok-lifted.ensures) (joined_lifted (condition_in c.in_ok-conditions.conditions) c.args.case.now)
+    let b = c.args.bundle.now in
+    let new = c.instantiate.new.w in
+    joined_here b c.requires.read new (products_later (bundle_view b) c.args.d.now new c.instantiate.ensures.kept c.requires.products) c.in_ok-case.case
+    (instance_of (algebra_of new) c.in_ok-case.case b.model _ _ _ _ _ _ c.text.ensures c.features.ensures c.list.ensures c.in_ok-case.ensures.lifted)
 
 pub returns-in_err-bytes-clause-stopped : goal.returns-in_err-bytes-clause-stopped
 returns-in_err-bytes-clause-stopped c =
-    let conditions = c.in_ok-conditions.conditions in
+    let b = c.args.bundle.now in
+    let new = c.instantiate.new.w in
     stops_with _ _ _ c.from_residual-in_err-bytes.ensures.1
-    (writing_stops c.args.case.now c.requires.thin c.conditions_of.new.d conditions c.in_ok-conditions.ensures.asked
-    (c.conditions_of.ensures.kept.vars ∙ c.requires.features) c.in_ok-conditions.ensures.named
-    c.in_ok-lifted.lifted c.in_ok-lifted.ensures c.args.d.now c.in_err-bytes.field-0.0 (λ e. c.in_err-bytes.ensures.big (ap Err e)))
+    (writing_stops b c.requires.read new (products_later (bundle_view b) c.args.d.now new c.instantiate.ensures.kept c.requires.products) c.in_ok-case.case
+    (instance_of (algebra_of new) c.in_ok-case.case b.model _ _ _ _ _ _ c.text.ensures c.features.ensures c.list.ensures c.in_ok-case.ensures.lifted)
+    c.used-nodes.ensures.region c.args.d.now c.in_err-bytes.field-0.0 (λ e. c.in_err-bytes.ensures.big (ap Err e)))
 
-pub returns-clause-bytes : goal.returns-clause-bytes
-returns-clause-bytes c =
-    let conditions = c.in_ok-conditions.conditions in
-    bytes_are c.args.case.now c.requires.thin c.conditions_of.new.d conditions c.in_ok-conditions.ensures.asked
-    (c.conditions_of.ensures.kept.vars ∙ c.requires.features) c.in_ok-conditions.ensures.named
-    c.in_ok-lifted.lifted c.in_ok-lifted.ensures c.in_ok-bytes.bytes.items c.in_ok-bytes.ensures.ok
+pub returns-clause-built : goal.returns-clause-built
+returns-clause-built c =
+    let b = c.args.bundle.now in
+    let new = c.instantiate.new.w in
+    prints_here b c.requires.read new (products_later (bundle_view b) c.args.d.now new c.instantiate.ensures.kept c.requires.products) c.in_ok-case.case
+    (instance_of (algebra_of new) c.in_ok-case.case b.model _ _ _ _ _ _ c.text.ensures c.features.ensures c.list.ensures c.in_ok-case.ensures.lifted)
+    c.in_ok-bytes.bytes.items c.in_ok-bytes.ensures.ok

@@ -1,11 +1,11 @@
-use Rattle.std.proofs.Common.{◌≡◌, sym, subst}
+use Rattle.std.proofs.Common.{◌≡◌, sym, ap, ◌∙◌}
 use Rattle.std.proofs.lemmas.Result.{IfOk-weaker, IfErr-weaker}
-use Rattle.meaning.specs.Answers.{Prints, of_derivation, configured, is_unread}
+use Rattle.meaning.specs.Configurations.{World}
+use Rattle.meaning.specs.Answers.{Prints, of_derivation}
 use Rattle.meaning.specs.Derivation.{derived_at}
 use Rattle.lifted_case.specs.CaseView.{case_document_of_read}
-use Rattle.workbench.specs.BuildingStage.{building_cases}
 use Rattle.workbench.specs.Run.{Refuses}
-use Rattle.workbench.specs.Readings.{IsWorldOf, AnswersDerive}
+use Rattle.workbench.specs.Readings.{AnswersDerive}
 use Rattle.workbench.proofs.Exits.{stops_with}
 use Rattle.workbench.proofs.TextAnswers.{case_refuses, derive_stops, derive_answered, derive_refused}
 use Rattle.workbench.proofs.derived_text.derive.Goals as goal
@@ -25,15 +25,15 @@ returns-clause-derived c =
     let k = case_document_of_read c.in_ok-case.case in
     let name = c.args.name.now in
     let chosen = c.args.chosen.now in
-    let i = subst (λ w. IsWorldOf (is_unread building_cases name) (configured k.features name chosen) w) (sym c.list.ensures) c.in_ok-world.ensures.world in
     IfOk-weaker c.derived_text.result (λ v. of_derivation (derived_at k c.list.result.now) ≡ Prints v.items) (λ v. AnswersDerive c.args.bytes.now name chosen (Prints v.items))
-    (λ v h. derive_answered c.args.bytes.now name chosen k c.list.result.now (Prints v.items) c.in_ok-case.ensures.ok i h) c.derived_text.ensures.derived
+    (λ v h. derive_answered c.args.bytes.now name chosen k c.list.result.now (Prints v.items) c.in_ok-case.ensures.ok
+    (c.in_ok-world.ensures.world ∙ ap World (sym c.list.ensures)) h) c.derived_text.ensures.derived
 
 pub returns-clause-refused : goal.returns-clause-refused
 returns-clause-refused c =
     let k = case_document_of_read c.in_ok-case.case in
     let name = c.args.name.now in
     let chosen = c.args.chosen.now in
-    let i = subst (λ w. IsWorldOf (is_unread building_cases name) (configured k.features name chosen) w) (sym c.list.ensures) c.in_ok-world.ensures.world in
     IfErr-weaker c.derived_text.result (Refuses (λ a. of_derivation (derived_at k c.list.result.now) ≡ a)) (Refuses (AnswersDerive c.args.bytes.now name chosen))
-    (λ s h. derive_refused c.args.bytes.now name chosen k c.list.result.now s c.in_ok-case.ensures.ok i h) c.derived_text.ensures.refused
+    (λ s h. derive_refused c.args.bytes.now name chosen k c.list.result.now s c.in_ok-case.ensures.ok
+    (c.in_ok-world.ensures.world ∙ ap World (sym c.list.ensures)) h) c.derived_text.ensures.refused

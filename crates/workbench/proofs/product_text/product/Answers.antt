@@ -2,8 +2,8 @@ use Rattle.std.proofs.Common.{[], ◌∷◌}
 use Rattle.std.proofs.lemmas.Result.{IfOk-weaker, IfErr-weaker}
 use Rattle.meaning.specs.Words.{Product}
 use Rattle.meaning.specs.Answers.{Prints, IsAnswer}
-use Rattle.doc_tree.specs.View.{document}
 use Rattle.workbench.specs.BuildingStage.{building_cases}
+use Rattle.workbench.specs.BundleView.{bundle_view}
 use Rattle.workbench.specs.Run.{Refuses}
 use Rattle.workbench.specs.Readings.{AnswersProduct}
 use Rattle.workbench.proofs.Exits.{stops_with}
@@ -15,23 +15,26 @@ returns-in_err-bundle-clause-refused c =
     stops_with _ _ _ c.from_residual.ensures.1
     (product_stops c.args.bundle_name.now c.args.bytes.now c.args.name.now c.args.chosen.now _ c.in_err-bundle.ensures.stopped)
 
+pub product_of-requires : goal.product_of-requires
+product_of-requires c = c.in_ok-bundle.ensures.good.read
+
 pub returns-clause-text : goal.returns-clause-text
 returns-clause-text c =
-    let d = document c.in_ok-bundle.bundle in
+    let b = c.in_ok-bundle.bundle in
     let bundle = c.args.bundle_name.now in
     let bytes = c.args.bytes.now in
     let name = c.args.name.now in
     let chosen = c.args.chosen.now in
-    IfOk-weaker c.product_of.result (λ v. AnswersProduct d name chosen (Prints v.items))
+    IfOk-weaker c.product_of.result (λ v. AnswersProduct (bundle_view b) name chosen (Prints v.items))
     (λ v. IsAnswer building_cases (Product bundle name) (bytes ∷ chosen ∷ []) (Prints v.items))
-    (λ v h. product_answered bundle bytes name chosen d (Prints v.items) c.in_ok-bundle.ensures.good h) c.product_of.ensures.text
+    (λ v h. product_answered bundle bytes name chosen b (Prints v.items) c.in_ok-bundle.ensures.good h) c.product_of.ensures.text
 
 pub returns-clause-refused : goal.returns-clause-refused
 returns-clause-refused c =
-    let d = document c.in_ok-bundle.bundle in
+    let b = c.in_ok-bundle.bundle in
     let bundle = c.args.bundle_name.now in
     let bytes = c.args.bytes.now in
     let name = c.args.name.now in
     let chosen = c.args.chosen.now in
-    IfErr-weaker c.product_of.result (Refuses (AnswersProduct d name chosen)) (Refuses (IsAnswer building_cases (Product bundle name) (bytes ∷ chosen ∷ [])))
-    (λ s h. product_refused bundle bytes name chosen d s c.in_ok-bundle.ensures.good h) c.product_of.ensures.refused
+    IfErr-weaker c.product_of.result (Refuses (AnswersProduct (bundle_view b) name chosen)) (Refuses (IsAnswer building_cases (Product bundle name) (bytes ∷ chosen ∷ [])))
+    (λ s h. product_refused bundle bytes name chosen b s c.in_ok-bundle.ensures.good h) c.product_of.ensures.refused

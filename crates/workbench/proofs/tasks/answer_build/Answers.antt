@@ -1,9 +1,9 @@
 use Rattle.std.proofs.Common.{[], ◌∷◌, sym, subst}
 use Rattle.std.proofs.lemmas.Result.{IfOk-weaker, IfErr-weaker}
 use Rattle.meaning.specs.Words.{Build}
-use Rattle.meaning.specs.Answers.{Prints, IsAnswer}
+use Rattle.meaning.specs.Answers.{Prints, IsAnswer, bundle_in}
 use Rattle.workbench.specs.BuildingStage.{building_cases}
-use Rattle.workbench.specs.Limits.{diagrams_of}
+use Rattle.workbench.specs.Limits.{HasFewFeatures, diagrams_of}
 use Rattle.workbench.specs.Run.{shelf_of, file_of, IsFileOf, StopsBuilding, AnswersTask, StopsTask}
 use Rattle.workbench.proofs.BuildAnswers.{shut_is_opened}
 use Rattle.workbench.proofs.Exits.{stops_with}
@@ -40,5 +40,5 @@ returns-clause-stopped g c =
     let read = subst (IsFileOf (before.holds c.args.bundle.now) 16777216) (sym c.deref.ensures.value) c.in_ok-bytes.ensures.read in
     let old = diagrams_of c.args.d.now in
     let new = diagrams_of c.build.new.d in
-    IfErr-weaker c.build.result (StopsBuilding c.args.limit old new (IsAnswer building_cases task (bytes ∷ []))) (StopsTask task c.args.limit before after old new)
+    IfErr-weaker c.build.result (StopsBuilding c.args.limit (HasFewFeatures (bundle_in building_cases c.args.bundle.now bytes)) old new (IsAnswer building_cases task (bytes ∷ []))) (StopsTask task c.args.limit before after old new)
     (λ s h. build_stops c.args.bundle.now c.args.limit before after old new bytes read s h) c.build.ensures.stopped
