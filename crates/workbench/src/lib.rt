@@ -1,20 +1,20 @@
 //! The workbench: the one call that reads the words and the files, and answers.
 //!
 //! [`run`] promises what the record `Promise` of `meaning` says at the stage `building_cases` of `specs/BuildingStage.antt`, for every list of
-//! words, every shelf, every pair of sinks and shut diagrams. `build` writes the case of a thin bundle, whose conditions are made in diagrams,
-//! `derive` the text of a case file, whoever wrote it, at a configuration, and `product` the text of a thin bundle's own product at a
-//! configuration. Each refusal has its cause, and the first one is told: of the words, of reading the files in their order, of the first file,
-//! of the configuration, of the world that it names, of the node limit, and of the size of the case. `LimitAt` of `specs/Limits.antt` is the
-//! cause of a reached node limit.
+//! words, every shelf, every pair of sinks and shut diagrams. `build` writes the case of a bundle whose templates have no solution, with its
+//! conditions made in diagrams, `derive` the text of a case file, whoever wrote it, at a configuration, and `product` the text of the
+//! templates on the configuration's own model. Each refusal has its cause, and the first one is told: of the words, of reading the files in
+//! their order, of the first file, of the configuration, of the world that it names, of the node limit, and of the size of the case. `LimitAt`
+//! of `specs/Limits.antt` is the cause of a reached node limit.
 //! A case that `build` wrote derives, for every configuration file, to the same bytes or refusal as the product of its bundle:
 //! `derive_agrees_with_product` of `proofs/DerivedProducts.antt`.
 //!
-//! It is made of small steps, each with its contract: the words, the files, the document of a bundle and the plain tests of thin bundles, the
-//! case, its conditions in diagrams and its bytes, the world of a configuration, the case at that world and its text, the output.
+//! It is made of small steps, each with its contract: the words, the files, the document of a bundle with its line, model and templates, the
+//! case over diagrams and its bytes, the case over one world, the world of a configuration, the case at that world and its text, the output.
 //!
-//! Stands on `outside` for files and sinks, on `doc_tree`, `cond_text`, `feature_model` and `lifted_case` for what the files say, on
-//! `conditions` for diagrams, on `case_derive`, `gsn` and `case_text` for the text of one product, and on `meaning`; `specs/Run.antt`,
-//! `specs/Limits.antt` and `specs/Readings.antt` have the words of its contracts.
+//! Stands on `outside` for files and sinks, on `doc_tree`, `cond_text`, `feature_model`, `annotated_model`, `path_queries`, `templates` and
+//! `lifted_case` for what the files say, on `conditions` for diagrams, on `lifting` for cases, on `case_derive`, `gsn` and `case_text` for the
+//! text of one product, and on `meaning`; `specs/Run.antt`, `specs/Limits.antt` and `specs/Readings.antt` have the words of its contracts.
 #![tactic(auto)]
 
 mod building;
