@@ -26,8 +26,6 @@ mod files;
 mod product_text;
 mod status;
 mod tasks;
-#[cfg(test)]
-mod tests;
 mod texts;
 mod top;
 mod words;

@@ -1,7 +1,11 @@
-use super::*;
-use outside::MemSink;
-use std::fs;
+//! Runs of the top call over real files and streams, as the program makes them.
+
+use super::in_memory::BUNDLE;
+use conditions::Diagrams;
+use outside::{FileShelf, MemSink, StreamSink};
 use std::test::Fail;
+use std::{fs, io};
+use workbench::run;
 
 /// Builds the bundle in a real file, and answers the status's number and what was said.
 fn built<W: io::Write + Drop>(
@@ -28,9 +32,6 @@ fn built<W: io::Write + Drop>(
     Ok((status.code(), err.bytes().to_vec(rt.alloc())?))
 }
 
-const BUNDLE: &[u8] =
-    br##"{"bundle":1,"title":"T","line":{"features":[{"name":"R"}]},"templates":[{"name":"Top","nodes":[{"id":"g","kind":"goal","text":"Safe"}]}]}"##;
-
 #[test]
 fn real_faults_have_their_status(rt: HostRuntime) -> Result<(), Fail> {
     let (code, said) = built(&rt, "none.json", io::writer(&rt))?;
@@ -38,7 +39,7 @@ fn real_faults_have_their_status(rt: HostRuntime) -> Result<(), Fail> {
     assert_eq!(rt; said.as_slice(), b"plcase: file 0 not read\n".as_slice());
     let (code, _) = built(&rt, ".", io::writer(&rt))?;
     assert_eq!(rt; code, 13, "a folder");
-    fs::write(&rt, "real.json", BUNDLE)?;
+    fs::write(&rt, "real.json", BUNDLE.as_bytes())?;
     let full = fs::create(&rt, "/dev/full")?;
     let (code, said) = built(&rt, "real.json", full)?;
     assert_eq!(rt; code, 14, "a device with no room");
