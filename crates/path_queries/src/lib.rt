@@ -14,8 +14,6 @@ mod parse;
 mod parse_constraint;
 mod parse_names;
 mod parse_path;
-#[cfg(test)]
-mod parse_tests;
 mod parse_variables;
 mod token;
 mod token_at;
@@ -24,8 +22,6 @@ mod token_text;
 pub use data::{AnswerRows, Constraint, Path, Query};
 pub use fault::QueryStop;
 
-#[cfg(test)]
-mod answer_tests;
 mod answering;
 mod matrix;
 mod presence;

@@ -10,29 +10,19 @@ mod fault;
 mod holes;
 mod kinds;
 mod lengths;
-#[cfg(test)]
-mod list_tests;
 mod listed;
 mod members;
 mod names;
 mod node_form;
-#[cfg(test)]
-mod node_tests;
 mod nodes;
 mod params;
 mod queries;
 mod read;
 mod reader;
-#[cfg(test)]
-mod sample_bundles;
-#[cfg(test)]
-mod scope_tests;
 mod scopes;
 mod support;
 mod texts;
 mod uses;
-#[cfg(test)]
-mod whole_tests;
 mod words;
 
 pub use data::{Check, Piece, TKind, TNode, Template};
