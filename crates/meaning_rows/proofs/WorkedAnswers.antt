@@ -7,8 +7,7 @@ use Rattle.meaning.specs.Words.{Derive, Product, Replay, Evidence}
 use Rattle.meaning.specs.Statuses.{BadBundle, BadConfig, BadCase, NotValid, ReplayNo, Unsupported}
 use Rattle.meaning.specs.Evidence.{shown, text_of_evidence}
 use Rattle.meaning.specs.Answers.{Stage, Answer, Prints, refusal, IsAnswer, bundle_in}
-use Rattle.meaning.specs.Stages.{complete, plain_words, deriving_thin, no_case_faults}
-use Rattle.meaning.specs.ThinForm.{is_thin}
+use Rattle.meaning.specs.Stages.{complete, plain_words, building_templates, no_case_faults}
 use Rattle.toml.proofs.OnLiterals.{toml_on_literals}
 use Rattle.meaning_rows.proofs.Samples.{json, edited, smallest_bundle, smallest_toml, smallest_case, one_enumeration_bundle, one_enumeration_case, system_bundle, system_case, rules_on_literals, fault}
 
@@ -17,7 +16,7 @@ whole = complete plain_words
 
 -- the program that reads no TOML yet
 abbrev first : Stage
-first = deriving_thin no_case_faults
+first = building_templates no_case_faults
 
 abbrev root_and_second : List ℕ
 root_and_second = codes "{'features':['R','B']}"
@@ -109,11 +108,11 @@ unfolding rules_on_literals toml_on_literals IsAnswer bundle_in
 gives_the_text_in_toml = refl
 
 gives_nothing_of_an_unread_configuration : IsAnswer first (Product (codes "b.json") (codes "k.toml")) (one_enumeration_bundle ∷ codes "{" ∷ []) (refusal Unsupported)
-unfolding rules_on_literals IsAnswer bundle_in is_thin
+unfolding rules_on_literals IsAnswer bundle_in
 gives_nothing_of_an_unread_configuration = refl
 
 gives_nothing_of_an_unread_bundle : IsAnswer first (Product (codes "b.toml") (codes "k.json")) (codes "x" ∷ codes "{" ∷ []) (refusal Unsupported)
-unfolding rules_on_literals IsAnswer bundle_in is_thin
+unfolding rules_on_literals IsAnswer bundle_in
 gives_nothing_of_an_unread_bundle = refl
 
 -- ---- replay
