@@ -10,6 +10,7 @@ pub mod StatusLaws
 pub mod FirstIsLeast
 pub mod RulesInOrder
 pub mod FirstFaults
+pub mod TextReads
 pub mod TopCallLaws
 pub mod AnswerLaws
 pub mod CutTrees
