@@ -9,7 +9,7 @@ use Rattle.meaning.specs.Documents.{Document}
 use Rattle.meaning.specs.Models as meaning
 use Rattle.meaning.specs.BundlePlaces.{Kinds, Elements, name_in, text_of_member}
 use Rattle.meaning.proofs.NameTexts.{place_among}
-use Rattle.meaning.proofs.StrategyRules.{some_place}
+use Rattle.meaning.proofs.NamePlaces.{some_place}
 use Rattle.annotated_model.specs.Items.{named_type, kind_broken, kinds_broken, element_broken, elements_broken, element_told, types_told}
 use Rattle.annotated_model.specs.Known.{ParentsAreEarlier}
 use Rattle.annotated_model.proofs.ItemFacts.{IsNamed, KindEnds, kind_ends, element_type, each_item, map_same, weaker, all_mapped}

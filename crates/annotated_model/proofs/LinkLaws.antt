@@ -7,7 +7,7 @@ use Rattle.meaning.specs.Documents.{Document, text_at, list_at}
 use Rattle.meaning.specs.BundlePlaces.{Links, requires, where_formed, faults_at, may_have, is_list_value, is_among}
 use Rattle.meaning.specs.LineRules.{expression_rules}
 use Rattle.meaning.specs.ModelRules.{ModelContext, context_of, names_in, items_in, named_in, type_at, type_of_element, is_a_if_known, end_fits, kind_and_ends_are_known, link_form, link_rules}
-use Rattle.meaning.proofs.StrategyRules.{some_place}
+use Rattle.meaning.proofs.NamePlaces.{some_place}
 use Rattle.annotated_model.specs.declared.known.Known.{Known}
 use Rattle.annotated_model.specs.Known.{Knows}
 use Rattle.annotated_model.specs.Links as links

@@ -8,7 +8,7 @@ use crate::fault::ModelStop;
 use cond_text::{NameStop, Names};
 
 /// Whether a text is one of the names.
-#[tactic(auto, using(meaning::proofs::StrategyRules::some_place))]
+#[tactic(auto, using(meaning::proofs::NamePlaces::some_place))]
 pub fn is_known(names: &Names, text: &str) -> bool
     ensures { result ≡ places.is_among names.now text.now }
 {

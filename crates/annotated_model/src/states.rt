@@ -57,7 +57,7 @@ pub fn check_form(
 }
 
 /// The number of a label, if it is known.
-#[tactic(auto, using(meaning::proofs::StrategyRules::some_place))]
+#[tactic(auto, using(meaning::proofs::NamePlaces::some_place))]
 fn find_label(labels: &Names, label: &Doc) -> Option<u16>
     ensures known { is_some result ≡ is_among labels.now (rules.label_text (document label.now)) }
     ensures number { IfSome result (λ number. number ≡ meaning.number_in labels.now (rules.label_text (document label.now))) }

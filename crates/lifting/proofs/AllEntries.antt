@@ -7,7 +7,7 @@ use Rattle.meaning.specs.Tidy.{Tidy, TidyNode, ValidWorld, instance_at, node_wit
 use Rattle.meaning.specs.Entries.{Entry, entries_at, IsEntriesOf}
 use Rattle.meaning.specs.Entries as listed
 use Rattle.meaning.proofs.CutTrees.{Each}
-use Rattle.meaning.proofs.ThinModels.{each_by}
+use Rattle.meaning.proofs.EachMembers.{each_by}
 use Rattle.lifting.specs.Lifting.{Seen}
 use Rattle.lifting.specs.CaseCounts.{entries_of_finding, entries_of_node, entries_in}
 use Rattle.lifting.proofs.Lists.{each_append}

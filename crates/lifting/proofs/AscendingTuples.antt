@@ -6,7 +6,7 @@ use Rattle.meaning.specs.Models.{Model, PlainModel, model_at, is_a}
 use Rattle.meaning.specs.Queries.{Query, answers, tuples, meets, elements_of_type}
 use Rattle.meaning.specs.Tidy.{whole_model, is_before, Ascend}
 use Rattle.meaning.proofs.CutTrees.{Each}
-use Rattle.meaning.proofs.ThinModels.{each_by}
+use Rattle.meaning.proofs.EachMembers.{each_by}
 use Rattle.lifting.proofs.Pairs.{Pairwise, each_of_map, pairs_filtered, pairs_by, pairs_mapped, pairs_flat}
 use Rattle.lifting.proofs.Lists.{each_of_all}
 

@@ -13,7 +13,7 @@ use Rattle.meaning.specs.CaseReading.{row_fits, read_document, read_case, Is}
 use Rattle.meaning.specs.CaseBytes.{case_bytes, case_data}
 use Rattle.meaning.specs.TableOrder.{row_of_id, row_ahead, left_after, left_after_all, conditions_of, walk_order}
 use Rattle.meaning.proofs.CutTrees.{Each}
-use Rattle.meaning.proofs.ThinModels.{each_by}
+use Rattle.meaning.proofs.EachMembers.{each_by}
 use Rattle.node_pool.specs.declared.node.Node.{Node}
 use Rattle.node_pool.specs.declared.node.NodeNo.{NodeNo}
 use Rattle.node_pool.specs.Nodes.{node_at, top_of, value, IsReduced}

@@ -9,7 +9,7 @@ use Rattle.meaning.specs.Tidy.{Tidy, TidyNode, TidyFinding, ValidWorld, node_wit
 use Rattle.meaning.specs.Entries.{Entry, of_node, of_branch, of_target, of_witness, only, entries_at, IsEntriesOf}
 use Rattle.meaning.specs.Entries as listed
 use Rattle.meaning.proofs.CutTrees.{Each}
-use Rattle.meaning.proofs.ThinModels.{each_by}
+use Rattle.meaning.proofs.EachMembers.{each_by}
 use Rattle.lifting.specs.Lifting.{Seen}
 use Rattle.lifting.proofs.Lists.{each_append, each_of_all}
 use Rattle.lifting.proofs.Pairs.{Pairwise, each_of_map, pairs_append, pairs_by, pairs_mapped, pairs_from_map}

@@ -7,7 +7,8 @@ use Rattle.meaning.specs.Templates.{Instance, case_of}
 use Rattle.meaning.specs.Tidy.{presence_of}
 use Rattle.meaning.proofs.CutTrees.{Each, cut_tree, tree_map}
 use Rattle.meaning.proofs.CutCases.{as_case, case_tree, is_node_there, plain_relation, IsImplied, cut_is_tree, implied_by_target}
-use Rattle.meaning.proofs.ThinModels.{each_by, map_of_map}
+use Rattle.meaning.proofs.EachMembers.{each_by}
+use Rattle.meaning.proofs.MappedLists.{map_of_map}
 use Rattle.lifting.specs.Lifting.{Lifts}
 use Rattle.lifting.specs.LiftedCases.{Noted, there_in, seen_in, noted_tree}
 use Rattle.lifting.proofs.MappedTrees.{cut_mapped}

@@ -2,7 +2,7 @@
 use Rattle.std.proofs.Common.{◌≡◌, ◌≢◌, ℕ, List, [], ◌∷◌, map, Bool, true, false, Option, Some, None, refl, sym, ap, ◌∙◌}
 use Rattle.std.specs.Prelude.{cond, filter, find, bytes_eq}
 use Rattle.meaning.proofs.CutTrees.{Each}
-use Rattle.meaning.proofs.ThinModels.{each_by}
+use Rattle.meaning.proofs.EachMembers.{each_by}
 use Rattle.lifting.proofs.Pairs.{Pairwise}
 use Rattle.lifting.specs.Lifting.{Seen, key_seen}
 use Rattle.lifting.proofs.EqualityTests.{same_text, other_text}

@@ -17,7 +17,7 @@ use Rattle.meaning.specs.Tidy.{instance_at, presence_of}
 use Rattle.meaning.specs.Entries.{of_node, of_branch, of_target, of_witness, only, entries_of_node, entries_at, most_entries}
 use Rattle.meaning.specs.Answers.{Stage, Prints, refusal, product_answer, of_derivation}
 use Rattle.meaning.proofs.CutTrees.{Each}
-use Rattle.meaning.proofs.ThinModels.{each_by}
+use Rattle.meaning.proofs.EachMembers.{each_by}
 use Rattle.lifted_case.specs.declared.lifted.Lifted.{Lifted}
 use Rattle.lifted_case.specs.CaseWritten.{document_with, node_with}
 use Rattle.lifting.specs.FittingBundles.{truth_id}

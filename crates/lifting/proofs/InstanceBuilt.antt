@@ -24,8 +24,8 @@ use Rattle.meaning.specs.Tidy.{ValidWorld}
 use Rattle.meaning.specs.Answers.{Prints, refusal, Stage, IsBuildAnswer, ShowsCase, most_bytes}
 use Rattle.meaning.proofs.EmptyLists.{same_truth, all_true, both_true}
 use Rattle.meaning.proofs.CutTrees.{Each}
-use Rattle.meaning.proofs.ThinModels.{each_by}
-use Rattle.meaning.proofs.ThinTidy.{valid_is_long}
+use Rattle.meaning.proofs.EachMembers.{each_by}
+use Rattle.meaning.proofs.ValidWorlds.{valid_is_long}
 use Rattle.lifted_case.specs.declared.lifted.Lifted.{Lifted}
 use Rattle.lifted_case.specs.declared.lifted.LNode.{LNode}
 use Rattle.lifted_case.specs.CaseContents.{BreaksNoRule, TextsAreJoined}

@@ -13,7 +13,7 @@ use Rattle.meaning.specs.Cases.{argues, is_solution}
 use Rattle.meaning.specs.CaseReading.{part_is_text, is_strategy, bad_names}
 use Rattle.meaning.specs.Templates.{Template, left_open, joined_parts, branches_of}
 use Rattle.meaning.proofs.CutTrees.{Each, IsWithin}
-use Rattle.meaning.proofs.ThinModels.{each_by, each_filtered}
+use Rattle.meaning.proofs.EachMembers.{each_by, each_filtered}
 use Rattle.gsn.specs.View.{kind_of}
 use Rattle.path_queries.specs.Answering.{Somewhere, tuples_of, tuples_at}
 use Rattle.lifted_case.specs.declared.lifted.Lifted.{Lifted}

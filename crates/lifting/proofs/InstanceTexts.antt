@@ -8,7 +8,7 @@ use Rattle.meaning.specs.Queries.{Query, answers, element_of_variable, element_n
 use Rattle.meaning.specs.Cases.{NodeKind}
 use Rattle.meaning.specs.Templates.{Template, TemplateNode, TemplateKind, Plain, Uses, Instance, Instances, nothing, node_of, findings_of, is_under, annotates, annotations, supporters, supported_by, first_node, key_below, key_in_branch, is_guarded_off, instance_by_kind, instance_over, instance_within, instance, last_template, node_count}
 use Rattle.meaning.proofs.CutTrees.{Each}
-use Rattle.meaning.proofs.ThinModels.{each_by, each_filtered}
+use Rattle.meaning.proofs.EachMembers.{each_by, each_filtered}
 use Rattle.lifting.specs.Lifting.{Seen}
 use Rattle.lifting.specs.KeySteps.{IsSmall}
 use Rattle.lifting.specs.OrderedTemplates.{StandsAt}

@@ -17,7 +17,8 @@ use Rattle.meaning.specs.Derivation.{Bundle}
 use Rattle.meaning.specs.Tidy.{Among, ValidWorld, is_before, possible_keys, presence_of, name_of_element}
 use Rattle.meaning.proofs.CutTrees.{Each, tree_map}
 use Rattle.meaning.proofs.CutCases.{case_tree, plain_relation}
-use Rattle.meaning.proofs.ThinModels.{each_by, map_of_map}
+use Rattle.meaning.proofs.EachMembers.{each_by}
+use Rattle.meaning.proofs.MappedLists.{map_of_map}
 use Rattle.lifted_case.specs.declared.lifted.Lifted.{Lifted}
 use Rattle.lifted_case.specs.CaseWritten.{document_with, node_with, relation_with, system_with, finding_with, conditions_of_node, conditions_in}
 use Rattle.lifted_case.proofs.CaseReadable.{each_split, each_flat, each_in_map}

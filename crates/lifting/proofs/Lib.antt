@@ -3,7 +3,6 @@ pub mod Lists
 pub mod LiftedTrees
 pub mod LiftedNodes
 pub mod TemplateDepth
-pub mod KeyDepth
 pub mod ThereElements
 pub mod SeenNodes
 pub mod KeyTexts
@@ -22,11 +21,9 @@ pub mod MappedTrees
 pub mod LiftedCuts
 pub mod LiftedTidy
 pub mod LiftedBuild
-pub mod LiftedTemplates
 pub mod ChosenTuples
 pub mod HeldValues
-pub mod WorldLifting
-pub mod WorldShapes
+pub mod TupleLengths
 pub mod Members
 pub mod ListedOnce
 pub mod InstanceNodes
@@ -36,8 +33,6 @@ pub mod CaseEntries
 pub mod AllEntries
 pub mod EntriesExist
 pub mod LiftedBuilt
-pub mod InstanceParts
-pub mod PlaceParts
 pub mod NotedTrees
 pub mod LiftingSteps
 pub mod ElementTexts
@@ -61,7 +56,6 @@ pub mod InstanceBuilt
 pub mod InstanceAtOne
 pub mod BigCases
 pub mod ReadBundles
-pub mod LineWorlds
 pub mod ReadTemplateRules
 pub mod ReadTemplatePlaces
 pub mod ReadTemplateNodes

@@ -7,9 +7,9 @@ use Rattle.meaning.specs.CaseFiles.{CaseDocument, holds, cut}
 use Rattle.meaning.specs.Derivation.{Bundle, case_at}
 use Rattle.meaning.specs.Tidy.{instance_at, node_with_key, presence_of}
 use Rattle.meaning.proofs.CutTrees.{Each}
-use Rattle.meaning.proofs.ThinModels.{each_by}
-use Rattle.meaning.proofs.ThinTidy.{valid_is_long}
-use Rattle.meaning.proofs.ThinNodes.{each_from_members}
+use Rattle.meaning.proofs.EachMembers.{each_by}
+use Rattle.meaning.proofs.ValidWorlds.{valid_is_long}
+use Rattle.meaning.proofs.EachMembers.{each_from_members}
 use Rattle.lifting.specs.Lifting.{key_seen}
 use Rattle.lifting.specs.LiftedCases.{there_in, seen_in, IsLiftedCase}
 use Rattle.lifting.proofs.Pairs.{Pairwise}

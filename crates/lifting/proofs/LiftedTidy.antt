@@ -9,8 +9,10 @@ use Rattle.meaning.specs.Derivation.{Bundle, case_at}
 use Rattle.meaning.specs.Tidy.{Tidy, TidyNode, ValidWorld, node_with_key, key_above, key_of}
 use Rattle.meaning.proofs.CutTrees.{Each}
 use Rattle.meaning.proofs.CutCases.{plain_relation}
-use Rattle.meaning.proofs.ThinModels.{each_by, map_of_map}
-use Rattle.meaning.proofs.ThinTidy.{each_member, cut_keys}
+use Rattle.meaning.proofs.EachMembers.{each_by}
+use Rattle.meaning.proofs.MappedLists.{map_of_map}
+use Rattle.meaning.proofs.EachMembers.{each_member}
+use Rattle.meaning.proofs.CutKeys.{cut_keys}
 use Rattle.lifting.specs.LiftedCases.{there_in, seen_in, IsLiftedNode, IsLiftedCase}
 use Rattle.lifting.proofs.Pairs.{pairs_from_map, Pairwise, each_of_map, all_differ_from_pairs}
 use Rattle.lifting.proofs.AmongLists.{among_pairs}

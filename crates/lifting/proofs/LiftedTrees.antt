@@ -7,7 +7,7 @@ use Rattle.meaning.specs.Texts.{flat}
 use Rattle.meaning.specs.Cases.{NodeKind, Relation}
 use Rattle.meaning.specs.Templates.{Instance, over, nothing, relation_down, relations_below}
 use Rattle.meaning.proofs.CutTrees.{Tree, Each, IsWhole, HangsTogether, HasNoStrays, cut_tree, tree_map, no_tree, with_nodes, has_nodes, nodes_of, tree_over, link_down, links_below, cut_over, whole_over, cut_away, map_over, over_same, cut_has_no_strays}
-use Rattle.meaning.proofs.ThinModels.{map_of_map}
+use Rattle.meaning.proofs.MappedLists.{map_of_map}
 use Rattle.lifting.specs.Lifting.{Seen, kind_seen, instance_tree, left, Lifts, LiftsAll}
 use Rattle.lifting.proofs.Lists.{each_append, map_nothing, no_element}
 

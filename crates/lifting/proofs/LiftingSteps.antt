@@ -12,7 +12,7 @@ use Rattle.meaning.specs.Templates.{Template, TemplateNode, Plain, Uses, Instanc
 use Rattle.meaning.specs.Tidy.{Among, whole_model, keys_within, keys_by_kind}
 use Rattle.meaning.specs.Tidy as tidy
 use Rattle.meaning.proofs.CutTrees.{Tree, Each, no_tree, nodes_of, tree_over, links_below}
-use Rattle.meaning.proofs.ThinModels.{each_by}
+use Rattle.meaning.proofs.EachMembers.{each_by}
 use Rattle.lifting.specs.declared.growing.Growing.{Growing}
 use Rattle.lifting.specs.KeySteps.{IsSmall}
 use Rattle.lifting.specs.Lifting.{Lifts}

@@ -8,7 +8,7 @@ use Rattle.meaning.specs.Queries.{Query, tuples, element_numbers}
 use Rattle.meaning.specs.Templates.{Template, TemplateNode, is_under, annotates, annotations, supporters, key_below, key_in_branch}
 use Rattle.meaning.specs.Tidy.{Keys, keys_below, is_before}
 use Rattle.meaning.proofs.CutTrees.{Each}
-use Rattle.meaning.proofs.ThinModels.{each_filtered, each_by}
+use Rattle.meaning.proofs.EachMembers.{each_filtered, each_by}
 use Rattle.lifting.specs.KeySteps.{step_text, key_under, IsSmall, IsSmallAnswer, IsUnder}
 use Rattle.lifting.proofs.Lists.{each_append, flat_append, flat_of_map, flat_of_flat, each_of_all, flat_same, each_two}
 use Rattle.lifting.proofs.ThereElements.{each_of_tuples}

@@ -7,7 +7,8 @@ use Rattle.meaning.specs.Cases.{Relation}
 use Rattle.meaning.specs.Templates.{Instance}
 use Rattle.meaning.specs.Tidy.{Among, key_above}
 use Rattle.meaning.proofs.CutTrees.{Tree, Each, IsWithin, HangsTogether, cut_tree, tree_map, kept}
-use Rattle.meaning.proofs.ThinModels.{each_by, filter_of_map, map_of_map}
+use Rattle.meaning.proofs.EachMembers.{each_by}
+use Rattle.meaning.proofs.MappedLists.{filter_of_map, map_of_map}
 use Rattle.lifting.specs.Lifting.{Seen, left, Lifts}
 use Rattle.lifting.specs.RootedTrees.{IsRooted, IsKeyed, key_at}
 use Rattle.lifting.proofs.Lists.{map_same}

@@ -4,8 +4,8 @@ use Rattle.std.specs.Prelude.{cond, filter, Contains}
 use Rattle.std.specs.List.{slice_get}
 use Rattle.meaning.specs.Texts.{flat}
 use Rattle.meaning.proofs.CutTrees.{Each}
-use Rattle.meaning.proofs.ThinTidy.{member_later}
-use Rattle.meaning.proofs.ThinModels.{each_by}
+use Rattle.meaning.proofs.EachMembers.{member_later}
+use Rattle.meaning.proofs.EachMembers.{each_by}
 use Rattle.lifting.specs.Members.{Pairwise}
 pub use Rattle.lifting.specs.Members.{Member}
 use Rattle.lifting.proofs.Lists.{each_two}

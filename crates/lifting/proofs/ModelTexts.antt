@@ -10,7 +10,7 @@ use Rattle.meaning.specs.CaseReading.{part_is_text}
 use Rattle.meaning.specs.Templates.{TextPart, Words, NameOf, AttributeOf, Count, left_open}
 use Rattle.meaning.proofs.EmptyLists.{all_true}
 use Rattle.meaning.proofs.CutTrees.{Each}
-use Rattle.meaning.proofs.ThinModels.{each_filtered}
+use Rattle.meaning.proofs.EachMembers.{each_filtered}
 use Rattle.lifting.specs.FittingTemplates.{IsTextPart}
 use Rattle.lifting.specs.FittingBundles.{ModelHasTexts}
 use Rattle.lifting.proofs.EqualityTests.{none_is_some, some_is}

@@ -10,7 +10,7 @@ use Rattle.path_queries.specs.Answering.{Somewhere, tuples_at}
 use Rattle.meaning.specs.Cases.{Relation}
 use Rattle.meaning.specs.Templates.{Instance, moved, relation_to}
 use Rattle.meaning.proofs.CutTrees.{Tree, Each, nodes_of, links_below, link_down}
-use Rattle.meaning.proofs.ThinModels.{each_by}
+use Rattle.meaning.proofs.EachMembers.{each_by}
 use Rattle.lifted_case.specs.declared.lifted.LNode.{LNode}
 use Rattle.lifted_case.specs.declared.lifted.LRel.{LRel}
 use Rattle.lifting.specs.Lifting.{LiftsAll}

@@ -13,7 +13,7 @@ use Rattle.meaning.specs.Derivation.{Bundle}
 use Rattle.meaning.specs.Entries.{Entry, of_node, of_branch, of_target, of_witness, only, entries_of_node, most_entries}
 use Rattle.meaning.specs.Answers.{ManyEntries}
 use Rattle.meaning.proofs.CutTrees.{Each}
-use Rattle.meaning.proofs.ThinModels.{each_by}
+use Rattle.meaning.proofs.EachMembers.{each_by}
 use Rattle.lifting.specs.Lifting.{Seen}
 use Rattle.lifting.specs.FittingTemplates.{TemplatesFit}
 use Rattle.lifting.specs.Overflows.{Group, count_of_groups, KeyOccurs, TupleOccurs, Overflows, TooManyEntries}

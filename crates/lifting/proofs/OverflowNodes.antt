@@ -10,7 +10,7 @@ use Rattle.meaning.specs.Models.{Model, model_at}
 use Rattle.meaning.specs.Templates.{Template, TemplateNode, Instance, instance_within}
 use Rattle.meaning.specs.Tidy.{Among, is_before, whole_model, keys_within}
 use Rattle.meaning.proofs.CutTrees.{Tree, Each, has_nodes, nodes_of}
-use Rattle.meaning.proofs.ThinModels.{map_of_map}
+use Rattle.meaning.proofs.MappedLists.{map_of_map}
 use Rattle.lifting.specs.declared.growing.Growing.{Growing}
 use Rattle.lifting.specs.Lifting.{Seen, instance_tree, left, LiftsAll}
 use Rattle.lifting.specs.Noted.{Noted, note_key, there_at, seen_at, Stands, LiftsNode, LiftsBelow, entries_of}

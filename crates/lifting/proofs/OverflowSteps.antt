@@ -5,7 +5,7 @@ use Rattle.worlds.specs.Algebra.{Algebra, Kept}
 use Rattle.meaning.specs.Templates.{Instance}
 use Rattle.meaning.specs.Tidy.{Among, none, taken, passed}
 use Rattle.meaning.proofs.CutTrees.{Each}
-use Rattle.meaning.proofs.ThinModels.{each_by}
+use Rattle.meaning.proofs.EachMembers.{each_by}
 use Rattle.lifting.specs.Lifting.{Seen}
 use Rattle.lifting.specs.Overflows.{Group, count_of_groups, KeyOccurs, TupleOccurs, Overflows}
 use Rattle.lifting.proofs.Pairs.{Pairwise}

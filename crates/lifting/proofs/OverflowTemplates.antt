@@ -12,7 +12,7 @@ use Rattle.meaning.specs.Cases.{NodeKind}
 use Rattle.meaning.specs.Templates.{Template, TemplateNode, TemplateKind, Plain, Uses, Instance, nothing, over, node_of, findings_of, branches_of, annotations, supporters, supported_by, first_node, key_below, is_guarded_off, instance_by_kind, instance_within}
 use Rattle.meaning.specs.Tidy.{Among, none, taken, whole_model, keys_within, keys_by_kind, first_keys}
 use Rattle.meaning.specs.Tidy as tidy
-use Rattle.meaning.proofs.ThinModels.{each_by}
+use Rattle.meaning.proofs.EachMembers.{each_by}
 use Rattle.path_queries.specs.Answering.{tuples_of, tuples_at}
 use Rattle.lifting.specs.declared.growing.Growing.{Growing}
 use Rattle.lifting.specs.Lifting.{Seen}

@@ -6,7 +6,7 @@ use Rattle.std.proofs.lemmas.Slice.Eq.{bytes_eq-Decides}
 use Rattle.meaning.specs.Texts.{flat}
 use Rattle.meaning.specs.Tidy.{all_differ}
 use Rattle.meaning.proofs.CutTrees.{Each}
-use Rattle.meaning.proofs.ThinModels.{each_filtered, each_by}
+use Rattle.meaning.proofs.EachMembers.{each_filtered, each_by}
 use Rattle.lifting.proofs.Lists.{each_append, each_two}
 pub use Rattle.lifting.specs.Members.{Pairwise}
 

@@ -12,7 +12,7 @@ use Rattle.meaning.specs.Tidy.{instance_at, is_before}
 use Rattle.meaning.specs.Entries.{Entry, of_node, of_branch, of_target, of_witness, only, entries_of_node, entries_at, most_entries}
 use Rattle.meaning.specs.Answers.{Stage, IsBuilt}
 use Rattle.meaning.proofs.CutTrees.{Each}
-use Rattle.meaning.proofs.ThinModels.{each_by}
+use Rattle.meaning.proofs.EachMembers.{each_by}
 use Rattle.lifting.specs.Lifting.{Seen, key_seen}
 use Rattle.lifting.proofs.AscendingTuples.{IsAscending, answers_ascend, product_ascends, before_differ}
 use Rattle.lifting.proofs.EntryParts.{entry_key}

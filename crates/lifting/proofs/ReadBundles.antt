@@ -18,10 +18,11 @@ use Rattle.meaning.specs.TemplateRules.{template_faults}
 use Rattle.meaning.proofs.CutTrees.{Each}
 use Rattle.meaning.proofs.EmptyLists.{both_true, few_items, all_mapped}
 use Rattle.meaning.proofs.FirstFaults.{nothing_left}
-use Rattle.meaning.proofs.ItemRules.{new_names}
+use Rattle.meaning.proofs.NewNames.{new_names}
 use Rattle.meaning.proofs.NameTexts.{name_is_text}
-use Rattle.meaning.proofs.ThinModels.{each_by, map_of_map}
-use Rattle.meaning.proofs.ThinReading.{proper_names}
+use Rattle.meaning.proofs.EachMembers.{each_by}
+use Rattle.meaning.proofs.MappedLists.{map_of_map}
+use Rattle.meaning.proofs.ProperNames.{proper_names}
 use Rattle.annotated_model.proofs.TypeLaws.{where_formed_none, requires_none}
 use Rattle.annotated_model.proofs.RulesKept.{no_faults_at}
 use Rattle.lifting.specs.FittingTemplates.{TemplatesFit}

@@ -12,7 +12,7 @@ use Rattle.meaning.specs.TemplateTexts.{node_kind, variable_of, kind_of, query_a
 use Rattle.meaning.specs.TemplateRules.{NodeContext, KindWord, a_goal, a_strategy, a_solution, a_context, an_assumption, a_justification, a_use, no_kind, kind_named, kind_in, is_goal_or_strategy, only_if, has_what_it_needs, has_nothing_else, later_nodes_have_form, has_no_support, undeveloped_is_right, each_has_variables, has_its_members}
 use Rattle.meaning.specs.TemplateRules as rules
 use Rattle.meaning.proofs.EmptyLists.{both_true}
-use Rattle.meaning.proofs.PlainTypes.{absent}
+use Rattle.meaning.proofs.AbsentMembers.{absent}
 use Rattle.lifting.proofs.EqualityTests.{not_both, equal_texts}
 use Rattle.lifting.proofs.ReadTemplateOrder.{either_true}
 

@@ -13,7 +13,7 @@ use Rattle.meaning.specs.TemplateTexts.{Placed, variable_of, kind_of, scope_unde
 use Rattle.meaning.specs.TemplateRules.{NodeContext, scope_of, type_of_variable, argument_fits, arguments_fit}
 use Rattle.meaning.specs.BundlePlaces.{is_list_value, may_have}
 use Rattle.meaning.proofs.CutTrees.{Each}
-use Rattle.meaning.proofs.ThinModels.{each_by}
+use Rattle.meaning.proofs.EachMembers.{each_by}
 use Rattle.meaning.proofs.EmptyLists.{both_true}
 use Rattle.lifting.specs.ScopedTemplates.{bound_by}
 use Rattle.lifting.proofs.Lists.{each_two, each_passes}

@@ -13,7 +13,7 @@ use Rattle.meaning.specs.TemplateRules as rules
 use Rattle.meaning.specs.TemplateRules.{NodeContext, scope_of, templates_in, kind_in, last_has_no_parameters, template_faults}
 use Rattle.meaning.specs.BuiltForms.{has_no_solution, has_no_solutions}
 use Rattle.meaning.proofs.CutTrees.{Each}
-use Rattle.meaning.proofs.ThinModels.{each_by}
+use Rattle.meaning.proofs.EachMembers.{each_by}
 use Rattle.meaning.proofs.EmptyLists.{both_true}
 use Rattle.lifting.specs.OrderedTemplates.{StandsAt, AreOrdered}
 use Rattle.lifting.specs.ThereElements.{PartFits}

@@ -11,7 +11,7 @@ use Rattle.meaning.specs.CaseFiles.{CasePart, part_at}
 use Rattle.meaning.specs.Templates.{TextPart, Words, NameOf, AttributeOf, Count, TemplateNode, text_of, left_open, joined_parts, branches_of, check_refuted, node_of}
 use Rattle.meaning.specs.Tidy.{whole_model}
 use Rattle.meaning.proofs.CutTrees.{Each}
-use Rattle.meaning.proofs.ThinModels.{text_joined}
+use Rattle.meaning.proofs.JoinedTexts.{text_joined}
 use Rattle.lifting.specs.ThereElements.{IsThere, PartFits}
 use Rattle.lifting.proofs.ThereElements.{each_of_variable, same_name, same_attribute}
 

@@ -10,7 +10,7 @@ use Rattle.meaning.specs.Queries.{Query, answers, tuples, element_of_variable}
 use Rattle.meaning.specs.Templates.{Template, TemplateNode, Uses, branches_of, annotations, supporters}
 use Rattle.meaning.specs.Tidy.{whole_model, Among}
 use Rattle.meaning.proofs.CutTrees.{Each}
-use Rattle.meaning.proofs.ThinModels.{each_by}
+use Rattle.meaning.proofs.EachMembers.{each_by}
 use Rattle.path_queries.specs.Answering.{tuples_of, tuples_at}
 use Rattle.lifting.specs.KeySteps.{IsSmall}
 use Rattle.lifting.specs.ScopedTemplates.{bound_by}
@@ -20,7 +20,7 @@ use Rattle.lifting.proofs.Lists.{each_append}
 use Rattle.lifting.proofs.AmongLists.{among_each}
 use Rattle.lifting.proofs.EqualityTests.{none_is_some, some_is}
 use Rattle.lifting.proofs.KeysDiffer.{small_elements}
-use Rattle.lifting.proofs.WorldLifting.{tuple_lengths}
+use Rattle.lifting.proofs.TupleLengths.{tuple_lengths}
 use Rattle.lifting.proofs.Members.{Member, member_of_contains, member_each, member_mapped}
 use Rattle.lifting.proofs.ThereElements.{each_of_tuples, each_of_arguments, answers_are_there}
 

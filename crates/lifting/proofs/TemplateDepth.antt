@@ -9,7 +9,7 @@ use Rattle.meaning.specs.Queries.{Query, answers, element_of_variable}
 use Rattle.meaning.specs.Templates.{Template, TemplateNode, TemplateKind, Plain, Uses, Instance, Instances, over, nothing, node_of, findings_of, is_under, annotates, annotations, supporters, supported_by, first_node, key_below, key_in_branch, is_guarded_off, instance_by_kind, instance_over, instance_within, instance, last_template, node_count}
 use Rattle.meaning.specs.Entries.{under}
 use Rattle.meaning.proofs.CutTrees.{Each}
-use Rattle.meaning.proofs.ThinModels.{each_filtered, each_by}
+use Rattle.meaning.proofs.EachMembers.{each_filtered, each_by}
 use Rattle.lifting.specs.OrderedTemplates.{StandsAt, AreOrdered, instance_of}
 use Rattle.lifting.proofs.Lists.{each_two, each_of_all, map_same, flat_same, each_passes}
 use Rattle.lifting.proofs.EqualityTests.{equal_numbers, not_both, none_is_some}

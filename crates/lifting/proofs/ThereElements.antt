@@ -8,7 +8,8 @@ use Rattle.meaning.specs.Models.{Model, PlainModel, Element, model_at, is_a, ele
 use Rattle.meaning.specs.Queries.{Query, answers, tuples, meets, elements_of_type, element_numbers, element_of_variable}
 use Rattle.meaning.specs.Tidy.{whole_model}
 use Rattle.meaning.proofs.CutTrees.{Each}
-use Rattle.meaning.proofs.ThinModels.{each_filtered, each_found}
+use Rattle.meaning.proofs.EachMembers.{each_filtered}
+use Rattle.meaning.proofs.NumberedElements.{each_found}
 use Rattle.lifting.specs.ThereElements.{IsThere}
 use Rattle.lifting.proofs.Lists.{each_append}
 use Rattle.lifting.proofs.TemplateDepth.{each_numbered}

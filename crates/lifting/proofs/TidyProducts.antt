@@ -7,7 +7,7 @@ use Rattle.meaning.specs.CaseFiles.{CaseDocument, CaseNode, holds, cut, node_at_
 use Rattle.meaning.specs.Derivation.{Bundle, case_at}
 use Rattle.meaning.specs.Tidy.{Tidy, instance_at, node_with_key}
 use Rattle.meaning.specs.Models.{model_at}
-use Rattle.meaning.proofs.ThinModels.{map_of_map}
+use Rattle.meaning.proofs.MappedLists.{map_of_map}
 use Rattle.lifting.specs.Lifting.{Seen, key_seen}
 use Rattle.lifting.proofs.Pairs.{Pairwise, pairs_from_map, pairs_from_all_differ}
 use Rattle.lifting.proofs.AmongLists.{among_mapped, among_filtered, among_pairs}

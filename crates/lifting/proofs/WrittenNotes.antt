@@ -12,7 +12,8 @@ use Rattle.meaning.specs.Templates.{Findings, Instance}
 use Rattle.meaning.specs.Tidy.{presence_of}
 use Rattle.meaning.proofs.CutTrees.{Each}
 use Rattle.meaning.proofs.CutCases.{plain_relation}
-use Rattle.meaning.proofs.ThinModels.{each_by, map_of_map}
+use Rattle.meaning.proofs.EachMembers.{each_by}
+use Rattle.meaning.proofs.MappedLists.{map_of_map}
 use Rattle.lifted_case.specs.declared.lifted.Lifted.{Lifted}
 use Rattle.lifted_case.specs.declared.lifted.LRel.{LRel}
 use Rattle.lifted_case.specs.CaseWritten.{document_with, node_with, relation_with, conditions_of_node, conditions_of_finding}

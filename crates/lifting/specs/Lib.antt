@@ -6,7 +6,6 @@ pub mod RootedTrees
 pub mod LiftedCases
 pub mod ScopedTemplates
 pub mod FittingTemplates
-pub mod WorldLifting
 pub mod CaseCounts
 pub mod Stops
 pub mod Noted

@@ -27,10 +27,6 @@ pub mod Replay
 pub mod Worlds
 pub mod Reports
 pub mod BundleRules
-pub mod ThinForm
-pub mod ThinCases
-pub mod ThinTests
-pub mod StrategyTests
 pub mod BuiltForms
 pub mod Rules
 pub mod RuleViolations

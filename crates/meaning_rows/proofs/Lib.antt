@@ -13,7 +13,6 @@ pub mod InfusionPump
 pub mod ReadDocuments
 pub mod Samples
 pub mod StatusLines
-pub mod ThinForms
 pub mod TidySystem
 pub mod TramDoors
 pub mod VehicleBrakes
@@ -24,4 +23,3 @@ pub mod WorkedBounds
 pub mod WorkedCases
 pub mod WorkedExpressions
 pub mod WorkedReports
-pub mod WorkedThin

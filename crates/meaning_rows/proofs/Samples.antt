@@ -25,7 +25,6 @@ use Rattle.meaning.specs.LineRules.{line_faults, feature_rules, line_rule_rules}
 use Rattle.meaning.specs.ModelRules.{model_faults, type_rules, kind_rules, label_rules, element_rules, link_rules, system_rules, state_rules, transition_rules}
 use Rattle.meaning.specs.TemplateRules.{template_faults, template_rules, parameter_rules, node_rules}
 use Rattle.meaning.specs.BundleRules.{top_faults, bundle_faults, first_fault, first_fault_of_bytes}
-use Rattle.meaning.specs.ThinForm.{is_thin}
 
 -- ---- texts
 
@@ -197,7 +196,7 @@ unfolding serde_json_on_literals is_utf8 chars digits document_of expression_of 
 meaning_on_literals = tt
 
 unfoldable pub rules_on_literals : ⊤
-unfolding meaning_on_literals expression_fault query_fault text_hole_fault top_faults line_faults model_faults template_faults bundle_faults first_fault first_fault_of_bytes is_thin feature_rules line_rule_rules type_rules kind_rules label_rules element_rules link_rules system_rules state_rules transition_rules template_rules parameter_rules node_rules
+unfolding meaning_on_literals expression_fault query_fault text_hole_fault top_faults line_faults model_faults template_faults bundle_faults first_fault first_fault_of_bytes feature_rules line_rule_rules type_rules kind_rules label_rules element_rules link_rules system_rules state_rules transition_rules template_rules parameter_rules node_rules
 rules_on_literals = tt
 
 -- ---- faults

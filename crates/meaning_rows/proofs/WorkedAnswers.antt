@@ -4,20 +4,15 @@ use Rattle.std.proofs.Common.{lit<}
 use Rattle.meaning.specs.BundlePlaces.{Document', Bundle, Nodes, Table}
 use Rattle.meaning.specs.Replay.{NotInitial, NotJoined, NotPresent, run_of, replay_answer}
 use Rattle.meaning.specs.Words.{Derive, Product, Replay, Evidence}
-use Rattle.meaning.specs.Statuses.{BadBundle, BadConfig, BadCase, NotValid, ReplayNo, Unsupported}
+use Rattle.meaning.specs.Statuses.{BadBundle, BadConfig, BadCase, NotValid, ReplayNo}
 use Rattle.meaning.specs.Evidence.{shown, text_of_evidence}
 use Rattle.meaning.specs.Answers.{Stage, Answer, Prints, refusal, IsAnswer, bundle_in}
-use Rattle.meaning.specs.Stages.{complete, plain_words, deriving_thin, no_case_faults}
-use Rattle.meaning.specs.ThinForm.{is_thin}
+use Rattle.meaning.specs.Stages.{complete, plain_words}
 use Rattle.toml.proofs.OnLiterals.{toml_on_literals}
 use Rattle.meaning_rows.proofs.Samples.{json, edited, smallest_bundle, smallest_toml, smallest_case, one_enumeration_bundle, one_enumeration_case, system_bundle, system_case, rules_on_literals, fault}
 
 abbrev whole : Stage
 whole = complete plain_words
-
--- the program that reads no TOML yet
-abbrev first : Stage
-first = deriving_thin no_case_faults
 
 abbrev root_and_second : List ℕ
 root_and_second = codes "{'features':['R','B']}"
@@ -66,10 +61,6 @@ derives_from_no_broken_table : Derives (edited smallest_case (codes "[[0,0,1]]")
 unfolding rules_on_literals IsAnswer
 derives_from_no_broken_table = (record { fault = 5; part = Table; item = 0 }, (0, lit< tt, refl), refl)
 
-derives_from_no_unread_configuration : IsAnswer first (Derive (codes "c.json") (codes "k.toml")) (one_enumeration_case ∷ codes "{" ∷ []) (refusal Unsupported)
-unfolding rules_on_literals IsAnswer
-derives_from_no_unread_configuration = refl
-
 -- ---- product
 
 abbrev Gives : (bundle configuration : List ℕ) → Answer → Type 0
@@ -107,14 +98,6 @@ gives_the_text_in_toml : IsAnswer whole (Product (codes "b.toml") (codes "k.toml
     (Prints (codes "case T\nwith R\nG1 goal open\n  Safe\n"))
 unfolding rules_on_literals toml_on_literals IsAnswer bundle_in
 gives_the_text_in_toml = refl
-
-gives_nothing_of_an_unread_configuration : IsAnswer first (Product (codes "b.json") (codes "k.toml")) (one_enumeration_bundle ∷ codes "{" ∷ []) (refusal Unsupported)
-unfolding rules_on_literals IsAnswer bundle_in is_thin
-gives_nothing_of_an_unread_configuration = refl
-
-gives_nothing_of_an_unread_bundle : IsAnswer first (Product (codes "b.toml") (codes "k.json")) (codes "x" ∷ codes "{" ∷ []) (refusal Unsupported)
-unfolding rules_on_literals IsAnswer bundle_in is_thin
-gives_nothing_of_an_unread_bundle = refl
 
 -- ---- replay
 

@@ -8,7 +8,7 @@ use Rattle.meaning.specs.Queries.{Path, Along, Against, Then, OneOf, Chain}
 use Rattle.meaning.specs.QueryTexts.{Token, word, quoted, colon, comma, open_bracket, close_bracket, open_paren, close_paren, dot, equal_sign, exclamation, bar, slash, plus, caret, blank, strange, Parsed, closed, read_path, more_path, read_sequence, more_sequence, read_step, more_step, read_atom, kind_names}
 use Rattle.meaning.specs.QueryFaults.{Progress, a_step, a_step_back, after_step, going_on, goes_on}
 use Rattle.meaning.specs.BundlePlaces.{is_among}
-use Rattle.meaning.proofs.StrategyRules.{some_place}
+use Rattle.meaning.proofs.NamePlaces.{some_place}
 use Rattle.path_queries.specs.declared.token.Tokens.{Tokens}
 use Rattle.path_queries.specs.declared.token_at.Sign.{Sign}
 use Rattle.path_queries.specs.declared.token_at.Sign.TheVariants as code

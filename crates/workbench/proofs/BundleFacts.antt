@@ -19,7 +19,7 @@ use Rattle.meaning.specs.CaseBytes.{case_bytes, case_data}
 use Rattle.meaning.specs.CaseReading.{Is, read_case}
 use Rattle.meaning.specs.Answers.{Prints, refusal, IsBuildAnswer, ShowsCase, too_many_entries, most_bytes}
 use Rattle.meaning.proofs.FirstFaults.{nothing_left}
-use Rattle.meaning.proofs.ThinDocuments.{names_of_line}
+use Rattle.meaning.proofs.LineNames.{names_of_line}
 use Rattle.feature_model.specs.Contents.{line_view}
 use Rattle.annotated_model.specs.ModelFacts.{NamesFeatures}
 use Rattle.worlds.specs.Algebra.{Algebra, Kept}

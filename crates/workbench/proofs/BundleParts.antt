@@ -14,7 +14,7 @@ use Rattle.meaning.specs.TemplateRules.{template_faults}
 use Rattle.meaning.specs.BundleRules.{faults_of_readers}
 use Rattle.meaning.specs.Derivation.{Bundle, bundle_of}
 use Rattle.meaning.proofs.FirstFaults.{first_of_append}
-use Rattle.meaning.proofs.ThinDocuments.{names_of_line}
+use Rattle.meaning.proofs.LineNames.{names_of_line}
 use Rattle.doc_tree.specs.Places.{fault_of}
 use Rattle.feature_model.specs.Reading.{TellsFault}
 use Rattle.feature_model.specs.declared.read.LineStop.{LineStop}

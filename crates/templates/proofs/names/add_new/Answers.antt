@@ -2,7 +2,7 @@ use Rattle.std.proofs.Common.{◌≡◌, sym, ap, ◌∙◌, true, Some}
 use Rattle.std.specs.Prelude.{is_some}
 use Rattle.meaning.specs.Texts.{place_of}
 use Rattle.meaning.specs.BundlePlaces.{is_among}
-use Rattle.meaning.proofs.StrategyRules.{some_place}
+use Rattle.meaning.proofs.NamePlaces.{some_place}
 use Rattle.templates.proofs.names.add_new.Goals as goal
 
 pub unreachable-requires : goal.unreachable-requires
