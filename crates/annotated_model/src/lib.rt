@@ -9,23 +9,15 @@ mod condition;
 mod data;
 mod elements;
 mod fault;
-#[cfg(test)]
-mod fault_tests;
 mod kinds;
 mod known;
 mod labels;
-#[cfg(test)]
-mod limit_tests;
 mod links;
 mod model;
 mod names;
 mod new_texts;
 mod owners;
 mod read;
-#[cfg(test)]
-mod read_tests;
-#[cfg(test)]
-mod sample_models;
 mod states;
 mod systems;
 mod texts;

@@ -17,8 +17,6 @@ mod known;
 mod line;
 mod read;
 mod rules;
-#[cfg(test)]
-mod tests;
 mod validity;
 
 pub use config::{ConfigStop, read_config};

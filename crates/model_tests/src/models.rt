@@ -1,9 +1,9 @@
 //! What is read of whole models.
 
-use crate::sample_models::read;
-use crate::{Element, Link, LinkKind, Model, State, System, Transition, TypeDef};
-use cond_text::{Expr, Names};
-use doc_tree::Word;
+use annotated_model::{Element, Link, LinkKind, Model, State, System, Transition, TypeDef};
+use cond_text::{Expr, NameStop, Names};
+use doc_tree::{Doc, Word, from_json};
+use std::alloc::Global;
 use std::test::Fail;
 
 /// Two levels of inheritance, a link to an element of a type below the kind's, and two systems that stand in another order than their elements.
@@ -16,6 +16,28 @@ const WHOLE: &str = r#"{"model":{
     "systems":[
         {"element":"y","states":[{"name":"s","initial":true},{"name":"t","labels":["good","bad"]}],"transitions":[{"from":"s","to":"t","action":"go","when":"B"},{"from":"t","to":"s","action":"back"}]},
         {"element":"x","states":[{"name":"s","initial":true}]}]}}"#;
+
+/// The names R, A and B.
+fn features(alloc: Global) -> Result<Names, NameStop> {
+    let mut names = Names::new(alloc);
+    names.add("R")?;
+    names.add("A")?;
+    names.add("B")?;
+    Ok(names)
+}
+
+/// The model of a bundle document over these features.
+fn boxed(alloc: Global, doc: &Doc, features: &Names) -> Result<Box<Model>, Fail> {
+    let model = Model::read(alloc, doc, features)?;
+    Ok(Box::new(alloc, model)?)
+}
+
+/// The model of a bundle.
+fn read(alloc: Global, bundle: &str) -> Result<Box<Model>, Fail> {
+    let features = features(alloc)?;
+    let doc = from_json(alloc, bundle.as_bytes())?;
+    boxed(alloc, &doc, &features)
+}
 
 /// Whether the names are these, in this order.
 fn are_names(names: &Names, texts: &[&str]) -> bool {
@@ -73,21 +95,14 @@ fn are_the_types(types: &[TypeDef]) -> bool {
         && is_type(p, "P", None, false, &[])
 }
 
-/// Whether a type is itself and those above it, and no other.
+/// Whether L is M and N, M is itself, and neither N is L nor P or a type that isn't there is N.
 fn are_above(model: &Model) -> bool {
-    for (number, of, want) in [
-        (2, 0, true),
-        (2, 1, true),
-        (1, 1, true),
-        (0, 2, false),
-        (3, 0, false),
-        (4, 0, false),
-    ] {
-        if model.is_a(number, of) != want {
-            return false;
-        }
-    }
-    true
+    model.is_a(2, 0)
+        && model.is_a(2, 1)
+        && model.is_a(1, 1)
+        && !model.is_a(0, 2)
+        && !model.is_a(3, 0)
+        && !model.is_a(4, 0)
 }
 
 /// Whether these are j and k, which join P with itself and with N.
@@ -128,12 +143,9 @@ fn are_the_elements(elements: &[Element]) -> bool {
 
 /// Whether the elements are found by their names, and no other is.
 fn are_found(model: &Model) -> bool {
-    for (name, want) in [("p", Some(0)), ("y", Some(2)), ("z", None)] {
-        if model.element_no(name) != want {
-            return false;
-        }
-    }
-    true
+    model.element_no("p") == Some(0)
+        && model.element_no("y") == Some(2)
+        && model.element_no("z") == None
 }
 
 /// Whether this is the one link, of the kind k from p to y.
@@ -182,48 +194,50 @@ fn are_the_systems(systems: &[System]) -> bool {
         && second.transitions.list().is_empty()
 }
 
-/// The first part of the whole model that is not as it stands in its bundle.
-fn first_difference(model: &Model) -> Option<&'static str> {
+/// The first part of the whole model that is not as it stands in its bundle, and no text where each is.
+fn first_difference(model: &Model) -> &'static str {
     if !are_the_types(model.types()) || !are_above(model) {
-        return Some("types");
+        return "types";
     }
     if !are_the_kinds(model.kinds()) || !are_names(model.labels(), &["bad", "good"]) {
-        return Some("kinds or labels");
+        return "kinds or labels";
     }
     if !are_the_elements(model.elements()) || !are_found(model) {
-        return Some("elements");
+        return "elements";
     }
     if !is_the_link(model.links()) {
-        return Some("links");
+        return "links";
     }
     if !are_the_systems(model.systems()) {
-        return Some("systems");
+        return "systems";
     }
-    None
+    ""
 }
 
 #[test]
 fn a_whole_model_is_read_as_it_stands(rt: HostRuntime) -> Result<(), Fail> {
-    let model = read(rt.alloc(), WHOLE)??;
-    assert_eq!(rt; first_difference(&model), None);
+    let model = read(rt.alloc(), WHOLE)?;
+    assert_eq!(rt; first_difference(&model), "");
     Ok(())
 }
 
-/// Whether a model has nothing.
-fn is_empty(model: &Model) -> bool {
-    model.types().is_empty()
-        && model.kinds().is_empty()
-        && model.labels().count() == 0
-        && model.elements().is_empty()
-        && model.links().is_empty()
-        && model.systems().is_empty()
+/// How many types, kinds, labels, elements, links and systems a model has.
+fn counts(model: &Model) -> (usize, usize, u16, usize, usize, usize) {
+    (
+        model.types().len(),
+        model.kinds().len(),
+        model.labels().count(),
+        model.elements().len(),
+        model.links().len(),
+        model.systems().len(),
+    )
 }
 
 #[test]
 fn a_bundle_without_a_table_of_a_model_has_an_empty_model(rt: HostRuntime) -> Result<(), Fail> {
     for bundle in ["{}", "[]", "{\"model\":7}", "{\"model\":{}}"] {
-        let model = read(rt.alloc(), bundle)??;
-        assert!(rt; is_empty(&model), "{bundle}");
+        let model = read(rt.alloc(), bundle)?;
+        assert!(rt; counts(&model) == (0, 0, 0, 0, 0, 0), "{bundle}");
     }
     Ok(())
 }
