@@ -158,10 +158,33 @@ fn read_type(
     let none = Names::new(alloc);
     let parent = parent_of(names, item);
     let inherited = attributes_at(types, parent, &none);
+    read_below(alloc, names, types, parent, inherited, number, item)
+}
+
+/// The type with this number and parent, which inherits these attributes, where it breaks no rule after these types.
+fn read_below(
+    alloc: Global,
+    names: &Names,
+    types: &[TypeDef],
+    parent: Option<u16>,
+    inherited: &Names,
+    number: usize,
+    item: &Doc,
+) -> Result<TypeDef, ModelStop>
+    requires number { number ≤ 256 }
+    requires parent { parent ≡ named_type names.now (codes "parent") (document item.now) }
+    requires inherited { inherited.now ≡ meaning.inherited (map type_view types.now) parent }
+    ensures value { IfOk result (λ t. type_view t ≡ meaning.type_of names.now (map type_view types.now) (document item.now)) }
+    ensures none { IfOk result (λ _. type_broken names.now (map type_view types.now) number (document item.now) ≡ []) }
+    ensures new { IfOk result (λ _. is_among names.now (name_in (document item.now)) ≡ false) }
+    ensures within { IfOk result (λ _. number < 256) }
+    ensures fault { IfErr result (IsFirst (faults_at Types number 0 (type_broken names.now (map type_view types.now) number (document item.now)))) }
+{
     check(alloc, names, inherited, number, item)?;
+    let name = Word::of(alloc, item.text_at("name"))?;
     let attributes = attributes_of(alloc, inherited, item.list_at("attributes"))?;
     Ok(TypeDef {
-        name: Word::of(alloc, item.text_at("name"))?,
+        name,
         parent,
         attributes,
         system: item.truth_at("system") || system_at(types, parent),

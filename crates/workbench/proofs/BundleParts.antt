@@ -1,5 +1,5 @@
 -- The parts of a bundle document, as their readers give them, are its bundle, and the readers' first faults are the first of all of theirs.
-use Rattle.std.proofs.Common.{◌≡◌, refl, sym, ap, ap₂, ◌∙◌, subst, ℕ, List, [], ◌∷◌, ◌++◌, length}
+use Rattle.std.proofs.Common.{◌≡◌, refl, sym, ap, ◌∙◌, ℕ, List, [], ◌++◌}
 use Rattle.std.specs.Prelude.{Some, codes}
 use Rattle.meaning.specs.Texts.{first_of_list}
 use Rattle.meaning.specs.Documents.{Document, text_at}
@@ -25,6 +25,8 @@ use Rattle.annotated_model.specs.declared.fault.ModelStop.TheVariants as model_s
 use Rattle.templates.specs.Faults as template_faults_of
 use Rattle.templates.specs.declared.fault.TemplateStop.{TemplateStop}
 use Rattle.templates.specs.declared.fault.TemplateStop.TheVariants as template_stop
+use Rattle.workbench.specs.declared.status.Status.{Status}
+use Rattle.workbench.specs.declared.status.Status.TheVariants as status
 use Rattle.workbench.specs.Stopped.{status_of_line_stop, status_of_model_stop, status_of_template_stop}
 use Rattle.workbench.specs.Readings.{TellsFirst}
 
@@ -35,6 +37,23 @@ same_bundle s t l k m n ts us e f g h = rw (e, f, g, h) refl
 first_of_first : (xs ys : List BundleFault) (f : BundleFault) → first_of_list xs ≡ Some f → first_of_list (xs ++ ys) ≡ Some f
 first_of_first xs ys f e = first_of_append xs ys ∙ ap (λ o. or_else o (first_of_list ys)) e
 
+-- ---- a first fault of a part that is the first of all
+
+told_by : (xs ys : List BundleFault) → ((f : BundleFault) → first_of_list xs ≡ Some f → first_of_list ys ≡ Some f) → (s : Status) → TellsFirst xs s → TellsFirst ys s
+told_by xs ys g status.Done h = absurd h
+told_by xs ys g status.BadWords h = absurd h
+told_by xs ys g (status.BadBundle f) h = g (fault_of f) h
+told_by xs ys g (status.BadConfig rule at) h = absurd h
+told_by xs ys g status.NotValid h = absurd h
+told_by xs ys g (status.BadCase fault) h = absurd h
+told_by xs ys g (status.NodeLimit used) h = absurd h
+told_by xs ys g (status.BigCase entries) h = absurd h
+told_by xs ys g (status.TooLong k) h = absurd h
+told_by xs ys g (status.ReadFault k) h = absurd h
+told_by xs ys g status.WriteFault h = absurd h
+told_by xs ys g status.NoMemory h = tt
+told_by xs ys g status.Unsupported h = absurd h
+
 -- ---- the line
 
 line_first : (d : Document) (f : BundleFault) → first_of_list (line_faults d) ≡ Some f → first_of_list (faults_of_readers d) ≡ Some f
@@ -42,11 +61,22 @@ line_first d f e =
     first_of_first (line_faults d ++ model_faults (feature_names_in d) d) (template_faults (model_of (feature_names_in d) d) d) f
     (first_of_first (line_faults d) (model_faults (feature_names_in d) d) f e)
 
-pub line_stops : (d : Document) (stop : LineStop) → TellsFault stop (first_of_list (line_faults d)) → TellsFirst (faults_of_readers d) (status_of_line_stop stop)
-line_stops d (line_stop.Fault f) h = line_first d (fault_of f) h
-line_stops d line_stop.NoMemory h = tt
+pub line_stops : (fs : List BundleFault) (stop : LineStop) → TellsFault stop (first_of_list fs) → TellsFirst fs (status_of_line_stop stop)
+line_stops fs (line_stop.Fault f) h = h
+line_stops fs line_stop.NoMemory h = tt
+
+pub line_told : (d : Document) (s : Status) → TellsFirst (line_faults d) s → TellsFirst (faults_of_readers d) s
+line_told d s h = told_by (line_faults d) (faults_of_readers d) (line_first d) s h
 
 -- ---- the model over it, and the templates over that
+
+pub model_stops : (fs : List BundleFault) (stop : ModelStop) → model_faults_of.IsFirst fs stop → TellsFirst fs (status_of_model_stop stop)
+model_stops fs (model_stop.Fault f) h = h
+model_stops fs model_stop.NoMemory h = tt
+
+pub template_stops : (fs : List BundleFault) (stop : TemplateStop) → template_faults_of.IsFirst fs stop → TellsFirst fs (status_of_template_stop stop)
+template_stops fs (template_stop.Fault f) h = h
+template_stops fs template_stop.NoMemory h = tt
 
 module _ (d : Document) (line : Line) (line_is : line ≡ line_of d) (features : List (List ℕ)) (names : features ≡ feature_names line) where
   names_are : features ≡ feature_names_in d
@@ -57,9 +87,8 @@ module _ (d : Document) (line : Line) (line_is : line ≡ line_of d) (features :
       first_of_first (line_faults d ++ model_faults (feature_names_in d) d) (template_faults (model_of (feature_names_in d) d) d) f
       (ap (λ fs. first_of_list (fs ++ model_faults (feature_names_in d) d)) none ∙ ap (λ ns. first_of_list (model_faults ns d)) (sym names_are) ∙ e)
 
-  pub model_stops : line_faults d ≡ [] → (stop : ModelStop) → model_faults_of.IsFirst (model_faults features d) stop → TellsFirst (faults_of_readers d) (status_of_model_stop stop)
-  model_stops none (model_stop.Fault f) h = model_first none (fault_of f) h
-  model_stops none model_stop.NoMemory h = tt
+  pub model_told : line_faults d ≡ [] → (s : Status) → TellsFirst (model_faults features d) s → TellsFirst (faults_of_readers d) s
+  model_told none s h = told_by (model_faults features d) (faults_of_readers d) (model_first none) s h
 
   module _ (model : Model) (model_is : model ≡ model_of features d) where
     model_in_place : model ≡ model_of (feature_names_in d) d
@@ -76,10 +105,9 @@ module _ (d : Document) (line : Line) (line_is : line ≡ line_of d) (features :
         → first_of_list (faults_of_readers d) ≡ Some f
     templates_first no_line no_model f e = ap first_of_list (those no_line no_model) ∙ e
 
-    pub template_stops : line_faults d ≡ [] → model_faults features d ≡ [] → (stop : TemplateStop) → template_faults_of.IsFirst (template_faults model d) stop
-        → TellsFirst (faults_of_readers d) (status_of_template_stop stop)
-    template_stops no_line no_model (template_stop.Fault f) h = templates_first no_line no_model (fault_of f) h
-    template_stops no_line no_model template_stop.NoMemory h = tt
+    pub templates_told : line_faults d ≡ [] → model_faults features d ≡ [] → (s : Status) → TellsFirst (template_faults model d) s
+        → TellsFirst (faults_of_readers d) s
+    templates_told no_line no_model s h = told_by (template_faults model d) (faults_of_readers d) (templates_first no_line no_model) s h
 
     pub no_fault_of_readers : line_faults d ≡ [] → model_faults features d ≡ [] → template_faults model d ≡ [] → faults_of_readers d ≡ []
     no_fault_of_readers no_line no_model no_template = those no_line no_model ∙ no_template

@@ -1,21 +1,17 @@
 -- Diagrams that are restricted to the condition of a line have its valid worlds.
-use Rattle.std.proofs.Common.{◌≡◌, ◌≢◌, refl, sym, ap, ◌∙◌, subst, ℕ, zero, suc, ◌≤◌, ◌<◌, ◌-◌, List, [], ◌∷◌, length, Bool, true, false, ◌&&◌, inl, inr, arith}
+use Rattle.std.proofs.Common.{◌≡◌, refl, sym, ap, ◌∙◌, ℕ, zero, suc, ◌≤◌, List, [], ◌∷◌, length, Bool, true, false, ◌&&◌, inl, inr, arith}
 use Rattle.std.specs.Prelude.{◌⊎◌, ◌==◌}
 use Rattle.std.specs.List.{list_all}
-use Rattle.std.proofs.lemmas.Bool.{true≢false, false≢true}
-use Rattle.lifting.proofs.EqualityTests.{same_number, equal_numbers}
-use Rattle.meaning.specs.Features.{Line, is_valid, respects_tree, respects_mandatory, respects_groups, feature_names}
+use Rattle.lifting.proofs.EqualityTests.{equal_numbers}
+use Rattle.meaning.specs.Features.{Line, is_valid, respects_tree, respects_mandatory, respects_groups}
 use Rattle.meaning.specs.Expressions.{Expression, truth}
 use Rattle.meaning.specs.BundleRules.{NoWorldIsValid}
-use Rattle.meaning.specs.Tidy.{ValidWorld}
-use Rattle.meaning.specs.Derivation.{Bundle}
 use Rattle.node_pool.specs.declared.node.NodeNo.{NodeNo}
 use Rattle.node_pool.specs.Functions.{function_of, world_of}
 use Rattle.node_pool.proofs.Values.{value-constant}
-use Rattle.worlds.specs.Algebra.{Algebra, Kept, HoldsWhere, HoldsNowhere, IsRefusal, has}
-use Rattle.worlds.specs.declared.stops.NodeLimit.{NodeLimit}
+use Rattle.worlds.specs.Algebra.{Kept, HoldsWhere, HoldsNowhere, has}
 use Rattle.conditions.specs.Diagrams.{State, algebra_of, IsRestricted}
-use Rattle.workbench.specs.Products.{HasProducts, SameLimits}
+use Rattle.workbench.specs.Products.{SameLimits}
 
 -- ---- lists of truth values
 

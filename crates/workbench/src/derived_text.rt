@@ -1,7 +1,8 @@
 //! From the bytes of a case and of a configuration to the text that the case derives to.
 
-ghost use Rattle.std.specs.Prelude.{◌≡◌, IfOk, IfErr, length};
+ghost use Rattle.std.specs.Prelude.{◌≡◌, ℕ, List, IfOk, IfErr, length};
 ghost use Rattle.meaning.specs.Answers.{Prints, of_derivation};
+ghost use Rattle.meaning.specs.CaseReading.{Is, read_case};
 ghost use Rattle.meaning.specs.Derivation.{derived_at};
 ghost use Rattle.lifted_case.specs.CaseView.{case_document_of_read};
 ghost use Rattle.lifted_case.specs.CaseRules.{KeepsCaseRules};
@@ -21,8 +22,19 @@ pub fn derive(alloc: Global, bytes: &[u8], name: &str, chosen: &[u8]) -> Result<
     ensures refused { IfErr result (Refuses (AnswersDerive bytes.now name.now chosen.now)) }
 {
     let case = read_case(alloc, bytes)?;
+    text_at(alloc, &case, name, chosen)
+}
+
+/// The text that a case derives to at the configuration in a file of this name, or why there is none, whatever bytes the case was read from.
+fn text_at(alloc: Global, case: &ReadCase, name: &str, chosen: &[u8]) -> Result<Vec<u8>, Status>
+    requires { KeepsCaseRules case.now }
+    ensures derived { IfOk result (λ v. (bytes : List ℕ) → read_case bytes ≡ Is (case_document_of_read case.now)
+        → AnswersDerive bytes name.now chosen.now (Prints v.items)) }
+    ensures refused { IfErr result (λ status. (bytes : List ℕ) → read_case bytes ≡ Is (case_document_of_read case.now)
+        → Refuses (AnswersDerive bytes name.now chosen.now) status) }
+{
     let world = read_world(alloc, name, chosen, &case.lifted.features)?;
-    derived_text(alloc, &case, world.list())
+    derived_text(alloc, case, world.list())
 }
 
 /// The text of the case at a world, which has one truth value for each of its features.

@@ -2,9 +2,13 @@
 
 ghost use Rattle.std.specs.Prelude.{◌≡◌, ◌∷◌, [], IfOk, IfErr, true, length};
 ghost use Rattle.meaning.specs.Features.{is_valid};
+ghost use Rattle.meaning.specs.Cases.{text_of_case};
+ghost use Rattle.meaning.specs.CaseFiles.{cut};
 ghost use Rattle.meaning.specs.Words.{Product};
 ghost use Rattle.meaning.specs.Answers.{Prints, IsAnswer, product_answer};
 ghost use Rattle.feature_model.specs.Contents.{line_view};
+ghost use Rattle.case_derive.specs.Keys.{unkeyed};
+ghost use Rattle.case_derive.specs.OneWorld.{document_at_one};
 ghost use Rattle.workbench.specs.BuildingStage.{building_cases};
 ghost use Rattle.workbench.specs.BundleView.{bundle_view, IsReadBundle};
 ghost use Rattle.workbench.specs.Run.{Refuses};
@@ -15,6 +19,7 @@ use crate::status::Status;
 use crate::world::read_world;
 use case_derive::plain;
 use case_text::text;
+use lifted_case::Lifted;
 use lifting::instantiate;
 use std::alloc::Global;
 use worlds::One;
@@ -65,7 +70,16 @@ fn product_text(alloc: Global, bundle: &Bundle, world: &[bool]) -> Result<Vec<u8
         bundle.templates.list(),
         &mut one,
     )?;
-    let product = plain(alloc, &case)?;
+    text_of(alloc, &case, world)
+}
+
+/// The text of a case at the one world that it is over.
+fn text_of(alloc: Global, case: &Lifted<bool>, world: &[bool]) -> Result<Vec<u8>, Status>
+    requires { length world.now ≡ length case.now.features }
+    ensures text { IfOk result (λ v. v.items ≡ text_of_case (unkeyed (cut (document_at_one case.now) [])) case.now.title case.now.features world.now) }
+    ensures stopped { IfErr result (λ status. status ≡ Status.NoMemory) }
+{
+    let product = plain(alloc, case)?;
     let bytes = text(alloc, &product, case.title.text(), &case.features, world)?;
     Ok(bytes)
 }

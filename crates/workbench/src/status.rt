@@ -12,7 +12,7 @@ use doc_tree::{BundleFault, NoMemory};
 use feature_model::{ConfigStop, LineStop};
 use lifted_case::{CaseFault, CaseStop, ReadCaseStop};
 use lifting::LiftStop;
-use std::alloc::{AllocError, Global};
+use std::alloc::{AllocError, AllocFailed, Global};
 use templates::TemplateStop;
 use worlds::NodeLimit;
 
@@ -51,6 +51,14 @@ impl From<NoMemory> for Status {
     ghost from_gives = { λ _ status. status ≡ variant.NoMemory };
 
     fn from(_: NoMemory) -> Status {
+        Status::NoMemory
+    }
+}
+
+impl<T: Drop> From<AllocFailed<T>> for Status {
+    ghost from_gives = { λ _ status. status ≡ variant.NoMemory };
+
+    fn from(_: AllocFailed<T>) -> Status {
         Status::NoMemory
     }
 }

@@ -1,4 +1,4 @@
-use Rattle.std.proofs.Common.{[], ◌∷◌, ◌≤◌, length}
+use Rattle.std.proofs.Common.{[], ◌∷◌, ◌≤◌, length, sym, subst}
 use Rattle.std.proofs.lemmas.Result.{IfOk-weaker, IfErr-weaker}
 use Rattle.meaning.specs.Features.{feature_names}
 use Rattle.meaning.specs.Words.{Build}
@@ -6,6 +6,7 @@ use Rattle.meaning.specs.Answers.{Prints, IsAnswer, IsBuildAnswer, ShowsCase, bu
 use Rattle.workbench.specs.BuildingStage.{building_cases}
 use Rattle.workbench.specs.BundleView.{bundle_view}
 use Rattle.workbench.specs.Limits.{HasFewFeatures, diagrams_of}
+use Rattle.workbench.specs.Readings.{IsGoodBundle}
 use Rattle.workbench.specs.Run.{StopsBuilding}
 use Rattle.workbench.proofs.Exits.{stops_with}
 use Rattle.workbench.proofs.BuildAnswers.{build_answered, bundle_stops, building_stops, shut_is_opened}
@@ -20,20 +21,22 @@ pub returns-in_err-bundle-clause-opened : goal.returns-in_err-bundle-clause-open
 returns-in_err-bundle-clause-opened c = shut_is_opened c.args.limit c.args.d.now c.requires.shut
 
 pub build_bundle-requires-clause-read : goal.build_bundle-requires-clause-read
-build_bundle-requires-clause-read c = c.in_ok-bundle.ensures.good.read
+build_bundle-requires-clause-read c = (subst (IsGoodBundle (bundle_in building_cases c.args.name.now c.args.bytes.now)) (sym c.deref.ensures) c.in_ok-bundle.ensures.good).read
 
 pub returns-clause-built : goal.returns-clause-built
 returns-clause-built c =
-    let b = c.in_ok-bundle.bundle in
+    let b = c.deref.result.now in
+    let good = subst (IsGoodBundle (bundle_in building_cases c.args.name.now c.args.bytes.now)) (sym c.deref.ensures) c.in_ok-bundle.ensures.good in
     IfOk-weaker c.build_bundle.result (λ v. IsBuildAnswer building_cases (bundle_view b) ShowsCase (Prints v.items))
     (λ v. IsAnswer building_cases (Build c.args.name.now) (c.args.bytes.now ∷ []) (Prints v.items))
-    (λ v h. build_answered c.args.name.now c.args.bytes.now b (Prints v.items) c.in_ok-bundle.ensures.good h) c.build_bundle.ensures.built
+    (λ v h. build_answered c.args.name.now c.args.bytes.now b (Prints v.items) good h) c.build_bundle.ensures.built
 
 pub returns-clause-stopped : goal.returns-clause-stopped
 returns-clause-stopped c =
-    let b = c.in_ok-bundle.bundle in
+    let b = c.deref.result.now in
+    let good = subst (IsGoodBundle (bundle_in building_cases c.args.name.now c.args.bytes.now)) (sym c.deref.ensures) c.in_ok-bundle.ensures.good in
     let old = diagrams_of c.args.d.now in
     let new = diagrams_of c.build_bundle.new.d in
     IfErr-weaker c.build_bundle.result (StopsBuilding c.args.limit (length (feature_names (bundle_view b).line) ≤ 4) old new (IsBuildAnswer building_cases (bundle_view b) ShowsCase))
     (StopsBuilding c.args.limit (HasFewFeatures (bundle_in building_cases c.args.name.now c.args.bytes.now)) old new (IsAnswer building_cases (Build c.args.name.now) (c.args.bytes.now ∷ [])))
-    (λ s h. building_stops c.args.name.now c.args.bytes.now c.args.limit old new b s c.in_ok-bundle.ensures.good h) c.build_bundle.ensures.stopped
+    (λ s h. building_stops c.args.name.now c.args.bytes.now c.args.limit old new b s good h) c.build_bundle.ensures.stopped

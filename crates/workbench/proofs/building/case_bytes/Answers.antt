@@ -1,7 +1,5 @@
-use Rattle.std.proofs.Common.{sym, ap, ◌∙◌, refl}
+use Rattle.std.proofs.Common.{ap}
 use Rattle.std.specs.Prelude.{Err}
-use Rattle.meaning.specs.Features.{feature_names}
-use Rattle.feature_model.specs.Contents.{line_view}
 use Rattle.conditions.specs.Diagrams.{algebra_of}
 use Rattle.lifting.specs.Sites.{templates_of}
 use Rattle.workbench.specs.BundleView.{bundle_view}

@@ -11,8 +11,8 @@ use Rattle.workbench.proofs.bundle.read_bundle.Goals as goal
 
 pub returns-in-Ok-clause-good : goal.returns-in-Ok-clause-good
 returns-in-Ok-clause-good c =
-    IfOk-weaker c.bundle_of.result (IsReadFrom (document c.in-Ok.bundle)) (IsGoodBundle (bundle_in building_cases c.args.name.now c.args.bytes.now))
-    (λ b h. good_bundle c.args.name.now c.args.bytes.now (document c.in-Ok.bundle) c.in-Ok.ensures.ok b h) c.bundle_of.ensures.read
+    IfOk-weaker c.bundle_of.result (λ b. IsReadFrom (document c.in-Ok.bundle) b.value) (λ b. IsGoodBundle (bundle_in building_cases c.args.name.now c.args.bytes.now) b.value)
+    (λ b h. good_bundle c.args.name.now c.args.bytes.now (document c.in-Ok.bundle) c.in-Ok.ensures.ok b.value h) c.bundle_of.ensures.read
 
 pub returns-in-Ok-clause-stopped : goal.returns-in-Ok-clause-stopped
 returns-in-Ok-clause-stopped c =
