@@ -86,6 +86,19 @@ fn case_doc(
     Ok(table(entries))
 }
 
+/// The document of the case, with the identifiers of a table of its conditions.
+fn written_doc(alloc: Global, case: &Lifted<Cond>, d: &Diagrams) -> Result<Doc, NoMemory>
+    requires features { d.now.region.vars ≡ length case.now.features }
+    requires live { All (algebra_of d.now).live (conditions_in case.now) }
+    requires texts { TextsAreJoined case.now }
+    ensures { IfOk result (λ doc. (k : CaseDocument) × IsWrittenFrom d.now.region case.now k × IsWritten (document doc) (case_data k)) }
+{
+    let roots = case_walk(alloc, case)?;
+    let (table, ids) = case_ids(alloc, d, roots.as_slice())?;
+    let doc = case_doc(alloc, case, &table, &ids)?;
+    Ok(doc)
+}
+
 /// The bytes of the case's document, however many.
 fn all_bytes(alloc: Global, case: &Lifted<Cond>, d: &Diagrams) -> Result<Vec<u8>, NoMemory>
     requires features { d.now.region.vars ≡ length case.now.features }
@@ -93,9 +106,7 @@ fn all_bytes(alloc: Global, case: &Lifted<Cond>, d: &Diagrams) -> Result<Vec<u8>
     requires texts { TextsAreJoined case.now }
     ensures { IfOk result (λ v. (k : CaseDocument) × IsWrittenFrom d.now.region case.now k × (v.items ≡ case_bytes k) × (document_of Json v.items ≡ Some (of_json (case_data k)))) }
 {
-    let roots = case_walk(alloc, case)?;
-    let (table, ids) = case_ids(alloc, d, roots.as_slice())?;
-    let doc = case_doc(alloc, case, &table, &ids)?;
+    let doc = written_doc(alloc, case, d)?;
     let mut bytes = doc.to_json(alloc)?;
     bytes.push(b'\n')?;
     Ok(bytes)
