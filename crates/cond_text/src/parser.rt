@@ -2,6 +2,7 @@
 
 ghost use Rattle.std.specs.Prelude.{◌≡◌, ◌<◌, ◌≤◌, length, drop, Some, None, IfOk, IfErr};
 ghost use Rattle.meaning.specs.Expressions.{IsSame, IsImp, IsOr, IsAnd, IsNeg, name_bound, expression_of};
+ghost use Rattle.meaning.specs.Expressions as meaning;
 ghost use Rattle.meaning.specs.ExpressionFaults.{expression_fault};
 ghost use Rattle.cond_text.specs.View.{expression};
 ghost use Rattle.cond_text.specs.Phrases.{first_token, CanRead, ReadsFrom};
@@ -24,6 +25,30 @@ fn token_at(tokens: &[Token], at: usize) -> Token
     }
 }
 
+fn same(alloc: Global, left: Expr, right: Expr) -> Result<Expr, AllocError>
+    ensures { IfOk result (λ e. expression e ≡ meaning.Same (expression left) (expression right)) }
+{
+    Ok(Expr::Same(Box::new(alloc, left)?, Box::new(alloc, right)?))
+}
+
+fn implies(alloc: Global, left: Expr, right: Expr) -> Result<Expr, AllocError>
+    ensures { IfOk result (λ e. expression e ≡ meaning.Implies (expression left) (expression right)) }
+{
+    Ok(Expr::Implies(Box::new(alloc, left)?, Box::new(alloc, right)?))
+}
+
+fn either(alloc: Global, left: Expr, right: Expr) -> Result<Expr, AllocError>
+    ensures { IfOk result (λ e. expression e ≡ meaning.Either (expression left) (expression right)) }
+{
+    Ok(Expr::Either(Box::new(alloc, left)?, Box::new(alloc, right)?))
+}
+
+fn both(alloc: Global, left: Expr, right: Expr) -> Result<Expr, AllocError>
+    ensures { IfOk result (λ e. expression e ≡ meaning.Both (expression left) (expression right)) }
+{
+    Ok(Expr::Both(Box::new(alloc, left)?, Box::new(alloc, right)?))
+}
+
 /// The expression from a place on, as far as it goes, and the place after it.
 #[cycle(phrases)]
 fn parse_same(alloc: Global, tokens: &[Token], at: usize) -> Result<(Expr, usize), AllocError>
@@ -36,7 +61,7 @@ fn parse_same(alloc: Global, tokens: &[Token], at: usize) -> Result<(Expr, usize
     let (mut left, mut next) = parse_imp(alloc, tokens, at)?;
     'sames: while let Token::Same = token_at(tokens, next) {
         let (right, after) = parse_imp(alloc, tokens, next + 1)?;
-        left = Expr::Same(Box::new(alloc, left)?, Box::new(alloc, right)?);
+        left = same(alloc, left, right)?;
         next = after;
     }
     Ok((left, next))
@@ -54,10 +79,7 @@ fn parse_imp(alloc: Global, tokens: &[Token], at: usize) -> Result<(Expr, usize)
     match token_at(tokens, next) {
         Token::Implies => {
             let (consequence, after) = parse_imp(alloc, tokens, next + 1)?;
-            Ok((
-                Expr::Implies(Box::new(alloc, left)?, Box::new(alloc, consequence)?),
-                after,
-            ))
+            Ok((implies(alloc, left, consequence)?, after))
         }
         _ => Ok((left, next)),
     }
@@ -74,7 +96,7 @@ fn parse_or(alloc: Global, tokens: &[Token], at: usize) -> Result<(Expr, usize),
     let (mut left, mut next) = parse_and(alloc, tokens, at)?;
     'ors: while let Token::Or = token_at(tokens, next) {
         let (right, after) = parse_and(alloc, tokens, next + 1)?;
-        left = Expr::Either(Box::new(alloc, left)?, Box::new(alloc, right)?);
+        left = either(alloc, left, right)?;
         next = after;
     }
     Ok((left, next))
@@ -91,7 +113,7 @@ fn parse_and(alloc: Global, tokens: &[Token], at: usize) -> Result<(Expr, usize)
     let (mut left, mut next) = parse_neg(alloc, tokens, at)?;
     'ands: while let Token::And = token_at(tokens, next) {
         let (right, after) = parse_neg(alloc, tokens, next + 1)?;
-        left = Expr::Both(Box::new(alloc, left)?, Box::new(alloc, right)?);
+        left = both(alloc, left, right)?;
         next = after;
     }
     Ok((left, next))

@@ -57,14 +57,34 @@ impl Line {
             → expression e ≡ feature_condition self.now.features (no, f)) }
     {
         let placed = self.placed(no);
-        let child = child_condition(alloc, no, placed.parent)?;
-        let mandatory = mandatory_condition(alloc, no, placed)?;
-        let tree = both(alloc, child, mandatory)?;
-        let or_group = or_condition(alloc, no, self.ors(no))?;
-        let alternative = alternative_condition(alloc, no, self.alternatives(no))?;
-        let groups = both(alloc, or_group, alternative)?;
+        let tree = tree_condition(alloc, no, placed)?;
+        let groups = groups_condition(alloc, no, self.ors(no), self.alternatives(no))?;
         both(alloc, tree, groups)
     }
+}
+
+/// How a feature and its parent need one another.
+fn tree_condition(alloc: Global, no: u16, placed: Placed) -> Result<Expr, NoMemory>
+    ensures { IfOk result (λ e. expression e
+        ≡ Both (child_condition no placed.parent) (mandatory_condition no (group_view placed.group) placed.parent)) }
+{
+    let child = child_condition(alloc, no, placed.parent)?;
+    let mandatory = mandatory_condition(alloc, no, placed)?;
+    both(alloc, child, mandatory)
+}
+
+/// How a feature needs the children of its groups.
+fn groups_condition(
+    alloc: Global,
+    no: u16,
+    ors: &[u16],
+    alternatives: &[u16],
+) -> Result<Expr, NoMemory>
+    ensures { IfOk result (λ e. expression e ≡ Both (or_condition no ors.now) (alternative_condition no alternatives.now)) }
+{
+    let or_group = or_condition(alloc, no, ors)?;
+    let alternative = alternative_condition(alloc, no, alternatives)?;
+    both(alloc, or_group, alternative)
 }
 
 /// A feature needs its parent. The first feature needs none.
@@ -139,12 +159,20 @@ fn one_at_most(alloc: Global, depth: u8, children: &[u16]) -> Result<Expr, NoMem
         return Ok(Expr::Top);
     }
     let (first, others) = children.split_at(children.len() / 2);
-    let none = not(alloc, any_of(alloc, others)?)?;
-    let apart = implies(alloc, any_of(alloc, first)?, none)?;
     let of_first = one_at_most(alloc, depth - 1, first)?;
     let of_others = one_at_most(alloc, depth - 1, others)?;
     let of_each = both(alloc, of_first, of_others)?;
+    let apart = apart(alloc, first, others)?;
     both(alloc, apart, of_each)
+}
+
+/// Where one of the first features is true, none of the others is.
+fn apart(alloc: Global, first: &[u16], others: &[u16]) -> Result<Expr, NoMemory>
+    ensures { IfOk result (λ e. expression e ≡ Implies (any_of first.now) (Not (any_of others.now))) }
+{
+    let none = not(alloc, any_of(alloc, others)?)?;
+    let some = any_of(alloc, first)?;
+    implies(alloc, some, none)
 }
 
 /// The expression and all constraints.

@@ -1,7 +1,7 @@
 //! The findings of a case's solutions.
 
-ghost use Rattle.std.specs.Prelude.{◌≡◌, [], ◌∷◌, IfOk, OnOk, map, codes};
-ghost use Rattle.serde_json.specs.Data.{string, object};
+ghost use Rattle.std.specs.Prelude.{◌≡◌, IfOk, OnOk, map};
+ghost use Rattle.serde_json.specs.Data.{object};
 ghost use Rattle.meaning.specs.CaseBytes.{target_data, witness_data, list_data, members_of, finding_members};
 ghost use Rattle.doc_tree.specs.View.{document};
 ghost use Rattle.lifted_case.specs.CaseView.{check_of};
@@ -10,9 +10,9 @@ ghost use Rattle.lifted_case.specs.CaseWritten.{AddsMembers, id_in, target_with,
 ghost use Rattle.lifted_case.specs.CaseMembers.{system_members, query_members};
 
 use crate::case_ids::CaseIds;
-use crate::case_members::{pair, put};
+use crate::case_members::{pair, put, put_text};
 use crate::lifted::{LCheck, LFinding};
-use crate::tables::{list, number, table, text, texts};
+use crate::tables::{list, number, table, texts};
 use conditions::Cond;
 use doc_tree::{Doc, NoMemory, Row, Word};
 use std::alloc::Global;
@@ -67,9 +67,9 @@ fn put_system(
     ensures { OnOk result (AddsMembers entries.old.items entries.new.items
         (system_members (finding_with (id_in ids.now) finding.now) system)) }
 {
-    let targets = targets(alloc, ids, finding.targets.list())?;
     put(alloc, entries, "refuted", number(ids.id(finding.refuted)))?;
     put(alloc, entries, "system", number(u32::from(system)))?;
+    let targets = targets(alloc, ids, finding.targets.list())?;
     put(alloc, entries, "targets", targets)?;
     Ok(())
 }
@@ -84,18 +84,9 @@ fn put_query(
     ensures { OnOk result (AddsMembers entries.old.items entries.new.items
         (query_members (finding_with (id_in ids.now) finding.now))) }
 {
-    let witnesses = witnesses(alloc, ids, finding.witnesses.list())?;
     put(alloc, entries, "refuted", number(ids.id(finding.refuted)))?;
+    let witnesses = witnesses(alloc, ids, finding.witnesses.list())?;
     put(alloc, entries, "witnesses", witnesses)?;
-    Ok(())
-}
-
-/// Adds the word for a check.
-fn put_check(alloc: Global, entries: &mut Vec<(Word, Doc)>, word: &str) -> Result<(), NoMemory>
-    ensures { OnOk result (AddsMembers entries.old.items entries.new.items ((codes "check", string word.now) ∷ [])) }
-{
-    let word = text(alloc, word)?;
-    put(alloc, entries, "check", word)?;
     Ok(())
 }
 
@@ -111,24 +102,23 @@ fn put_finding(
 {
     match &finding.check {
         LCheck::Never(system, property) => {
-            let property = text(alloc, property.text())?;
-            put_check(alloc, entries, "never")?;
-            put(alloc, entries, "expr", property)?;
+            put_text(alloc, entries, "check", "never")?;
+            put_text(alloc, entries, "expr", property.text())?;
             put_system(alloc, ids, entries, finding, *system)?;
             Ok(())
         }
         LCheck::NoDeadlock(system) => {
-            put_check(alloc, entries, "deadlock")?;
+            put_text(alloc, entries, "check", "deadlock")?;
             put_system(alloc, ids, entries, finding, *system)?;
             Ok(())
         }
         LCheck::NoAnswer => {
-            put_check(alloc, entries, "none")?;
+            put_text(alloc, entries, "check", "none")?;
             put_query(alloc, ids, entries, finding)?;
             Ok(())
         }
         LCheck::SomeAnswer => {
-            put_check(alloc, entries, "some")?;
+            put_text(alloc, entries, "check", "some")?;
             put_query(alloc, ids, entries, finding)?;
             Ok(())
         }

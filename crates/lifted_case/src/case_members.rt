@@ -28,6 +28,20 @@ pub fn put(
     Ok(())
 }
 
+/// Adds a text to the members of a table.
+pub fn put_text(
+    alloc: Global,
+    entries: &mut Vec<(Word, Doc)>,
+    name: &str,
+    words: &str,
+) -> Result<(), NoMemory>
+    ensures { OnOk result (AddsMembers entries.old.items entries.new.items ((name.now, string words.now) ∷ [])) }
+{
+    let value = text(alloc, words)?;
+    put(alloc, entries, name, value)?;
+    Ok(())
+}
+
 /// The truth value true.
 pub fn mark() -> Doc
     ensures { IsWritten (document result) (boolean true) }

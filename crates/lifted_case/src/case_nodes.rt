@@ -8,11 +8,11 @@ ghost use Rattle.gsn.specs.View.{kind_of};
 ghost use Rattle.lifted_case.specs.CaseView.{case_part_of};
 ghost use Rattle.lifted_case.specs.Written.{IsWritten};
 ghost use Rattle.lifted_case.specs.CaseWritten.{AddsMembers, id_in, finding_with, node_with};
-ghost use Rattle.lifted_case.specs.CaseMembers.{undeveloped_members};
+ghost use Rattle.lifted_case.specs.CaseMembers.{members_of_node, undeveloped_members};
 
 use crate::case_findings::finding;
 use crate::case_ids::CaseIds;
-use crate::case_members::{ids as list_ids, mark, put};
+use crate::case_members::{ids as list_ids, mark, put, put_text};
 use crate::lifted::{LFinding, LNode, LPart};
 use crate::tables::{list, number, table, text};
 use conditions::Cond;
@@ -105,20 +105,32 @@ fn put_undeveloped(
     Ok(())
 }
 
+/// Adds the members of a node.
+fn put_members(
+    alloc: Global,
+    entries: &mut Vec<(Word, Doc)>,
+    ids: &CaseIds,
+    node: &LNode<Cond>,
+) -> Result<(), NoMemory>
+    ensures { OnOk result (AddsMembers entries.old.items entries.new.items
+        (members_of_node (node_with (id_in ids.now) node.now))) }
+{
+    put_branches(alloc, ids, entries, node.branches.list())?;
+    put_finding(alloc, ids, entries, &node.finding)?;
+    put_text(alloc, entries, "key", node.key.text())?;
+    put_text(alloc, entries, "kind", word(node.kind))?;
+    let parts = parts(alloc, node.text.list())?;
+    put(alloc, entries, "text", parts)?;
+    put_undeveloped(alloc, entries, node.undeveloped)?;
+    put(alloc, entries, "when", number(ids.id(node.when)))?;
+    Ok(())
+}
+
 fn node(alloc: Global, ids: &CaseIds, node: &LNode<Cond>) -> Result<Doc, NoMemory>
     ensures { IfOk result (λ d. IsWritten (document d) (node_data (node_with (id_in ids.now) node.now))) }
 {
-    let key = text(alloc, node.key.text())?;
-    let kind = text(alloc, word(node.kind))?;
-    let parts = parts(alloc, node.text.list())?;
     let mut entries = Vec::new(alloc);
-    put_branches(alloc, ids, &mut entries, node.branches.list())?;
-    put_finding(alloc, ids, &mut entries, &node.finding)?;
-    put(alloc, &mut entries, "key", key)?;
-    put(alloc, &mut entries, "kind", kind)?;
-    put(alloc, &mut entries, "text", parts)?;
-    put_undeveloped(alloc, &mut entries, node.undeveloped)?;
-    put(alloc, &mut entries, "when", number(ids.id(node.when)))?;
+    put_members(alloc, &mut entries, ids, node)?;
     Ok(table(entries))
 }
 

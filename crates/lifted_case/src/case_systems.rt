@@ -1,16 +1,17 @@
 //! The relations, the systems and the table of a case.
 
-ghost use Rattle.std.specs.Prelude.{◌≡◌, IfOk, map};
+ghost use Rattle.std.specs.Prelude.{◌≡◌, IfOk, OnOk, map};
 ghost use Rattle.meaning.specs.CaseBytes.{relation_data, transition_data, system_data, row_data, list_data};
 ghost use Rattle.meaning.specs.CaseBytes as bytes;
 ghost use Rattle.doc_tree.specs.View.{document};
 ghost use Rattle.gsn.specs.View.{relation_kind_of};
 ghost use Rattle.conditions.specs.Tables.{case_row, case_rows};
 ghost use Rattle.lifted_case.specs.Written.{IsWritten};
-ghost use Rattle.lifted_case.specs.CaseWritten.{id_in, relation_with, system_with};
+ghost use Rattle.lifted_case.specs.CaseWritten.{AddsMembers, id_in, relation_with, system_with};
+ghost use Rattle.lifted_case.specs.CaseMembers.{members_of_relation, members_of_system};
 
 use crate::case_ids::CaseIds;
-use crate::case_members::{ids as list_ids, put, triple};
+use crate::case_members::{ids as list_ids, put, put_text, triple};
 use crate::lifted::{LRel, LSystem};
 use crate::tables::{list, number, table, text, texts};
 use conditions::Cond;
@@ -28,15 +29,28 @@ fn word(kind: RelKind) -> &'static str
     }
 }
 
+/// Adds the members of a relation.
+fn put_relation(
+    alloc: Global,
+    entries: &mut Vec<(Word, Doc)>,
+    ids: &CaseIds,
+    relation: &LRel<Cond>,
+) -> Result<(), NoMemory>
+    ensures { OnOk result (AddsMembers entries.old.items entries.new.items
+        (members_of_relation (relation_with (id_in ids.now) relation.now))) }
+{
+    put(alloc, entries, "from", number(relation.from))?;
+    put_text(alloc, entries, "kind", word(relation.kind))?;
+    put(alloc, entries, "to", number(relation.to))?;
+    put(alloc, entries, "when", number(ids.id(relation.when)))?;
+    Ok(())
+}
+
 fn relation(alloc: Global, ids: &CaseIds, relation: &LRel<Cond>) -> Result<Doc, NoMemory>
     ensures { IfOk result (λ d. IsWritten (document d) (relation_data (relation_with (id_in ids.now) relation.now))) }
 {
-    let kind = text(alloc, word(relation.kind))?;
     let mut entries = Vec::new(alloc);
-    put(alloc, &mut entries, "from", number(relation.from))?;
-    put(alloc, &mut entries, "kind", kind)?;
-    put(alloc, &mut entries, "to", number(relation.to))?;
-    put(alloc, &mut entries, "when", number(ids.id(relation.when)))?;
+    put_relation(alloc, &mut entries, ids, relation)?;
     Ok(table(entries))
 }
 
@@ -75,20 +89,33 @@ fn transitions(alloc: Global, transitions: &[(u16, u16, Word)]) -> Result<Doc, N
     Ok(list(docs))
 }
 
+/// Adds the members of a system.
+fn put_system(
+    alloc: Global,
+    entries: &mut Vec<(Word, Doc)>,
+    ids: &CaseIds,
+    system: &LSystem<Cond>,
+) -> Result<(), NoMemory>
+    ensures { OnOk result (AddsMembers entries.old.items entries.new.items
+        (members_of_system (system_with (id_in ids.now) system.now))) }
+{
+    put_text(alloc, entries, "element", system.element.text())?;
+    let parents = list_ids(alloc, ids, system.parents.list())?;
+    put(alloc, entries, "parents", parents)?;
+    let reached = list_ids(alloc, ids, system.reached.list())?;
+    put(alloc, entries, "reached", reached)?;
+    let states = texts(alloc, system.states.list())?;
+    put(alloc, entries, "states", states)?;
+    let transitions = transitions(alloc, system.transitions.list())?;
+    put(alloc, entries, "transitions", transitions)?;
+    Ok(())
+}
+
 fn system(alloc: Global, ids: &CaseIds, system: &LSystem<Cond>) -> Result<Doc, NoMemory>
     ensures { IfOk result (λ d. IsWritten (document d) (system_data (system_with (id_in ids.now) system.now))) }
 {
-    let element = text(alloc, system.element.text())?;
-    let parents = list_ids(alloc, ids, system.parents.list())?;
-    let reached = list_ids(alloc, ids, system.reached.list())?;
-    let states = texts(alloc, system.states.list())?;
-    let transitions = transitions(alloc, system.transitions.list())?;
     let mut entries = Vec::new(alloc);
-    put(alloc, &mut entries, "element", element)?;
-    put(alloc, &mut entries, "parents", parents)?;
-    put(alloc, &mut entries, "reached", reached)?;
-    put(alloc, &mut entries, "states", states)?;
-    put(alloc, &mut entries, "transitions", transitions)?;
+    put_system(alloc, &mut entries, ids, system)?;
     Ok(table(entries))
 }
 

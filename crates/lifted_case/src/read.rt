@@ -1,24 +1,25 @@
 //! From bytes to a case.
 
-ghost use Rattle.std.specs.Prelude.{◌≡◌, [], Some, map, codes, IfOk, IfErr, Err};
+ghost use Rattle.std.specs.Prelude.{◌≡◌, ◌≤◌, [], Some, map, length, codes, IfOk, IfErr, Err};
 ghost use Rattle.meaning.specs.CaseReading as reading;
 ghost use Rattle.meaning.specs.CaseReading.{Is, Broken, case_document_of};
-ghost use Rattle.meaning.specs.Documents.{list_at};
+ghost use Rattle.meaning.specs.Documents.{list_at, text_at, texts_in};
 ghost use Rattle.doc_tree.specs.View.{document};
 ghost use Rattle.conditions.specs.Tables.{case_rows};
-ghost use Rattle.lifted_case.specs.CaseView.{case_document_of_read, fault_view};
+ghost use Rattle.lifted_case.specs.CaseView.{case_document_of_read, case_node_of, case_relation_of, case_system_of, fault_view};
 ghost use Rattle.lifted_case.specs.CaseRules.{KeepsCaseRules};
-ghost use Rattle.lifted_case.specs.ReadFaults.{faults_in, TellsReading};
+ghost use Rattle.lifted_case.specs.ReadFaults.{faults_in, size_at, TellsReading};
 
 use crate::faults::check;
-use crate::lifted::{CaseFault, Lifted, ReadCase};
+use crate::lifted::{CaseFault, LNode, LRel, LSystem, Lifted, ReadCase};
 use crate::members::natural_at;
 use crate::stop::ReadCaseStop;
 use crate::values::lists::names;
 use crate::values::nodes::{nodes, relations};
 use crate::values::systems::systems;
+use cond_text::Names;
 use conditions::{Table, read_table};
-use doc_tree::{Doc, DocStop, NoMemory, Part, Word, from_json};
+use doc_tree::{Doc, DocStop, NoMemory, Part, Row, Word, from_json};
 use std::alloc::Global;
 
 /// The file is no document with a table at the top.
@@ -62,17 +63,52 @@ fn case_of(alloc: Global, doc: &Doc) -> Result<ReadCase, NoMemory>
     ensures document { IfOk result (λ c. case_document_of_read c ≡ case_document_of (document doc.now)) }
     ensures rules { IfOk result KeepsCaseRules }
 {
-    let features = names(alloc, doc.list_at("features"))?;
-    let table = table(alloc, doc, features.count())?;
+    let items = read_items(alloc, doc)?;
+    let (features, table) = features_and_table(alloc, doc)?;
     let lifted = Lifted {
-        title: Word::of(alloc, doc.text_at("title"))?,
+        title: items.title,
         features,
         valid: natural_at(doc, "valid"),
+        nodes: items.nodes,
+        relations: items.relations,
+        systems: items.systems,
+    };
+    Ok(ReadCase { lifted, table })
+}
+
+/// What a document has beside its features and its table.
+#[derive(Drop)]
+struct Items {
+    title: Word,
+    nodes: Row<LNode<u32>>,
+    relations: Row<LRel<u32>>,
+    systems: Row<LSystem<u32>>,
+}
+
+fn read_items(alloc: Global, doc: &Doc) -> Result<Items, NoMemory>
+    ensures title { IfOk result (λ i. i.title ≡ text_at (codes "title") (document doc.now)) }
+    ensures nodes { IfOk result (λ i. map case_node_of i.nodes ≡ map reading.node_of (list_at (codes "nodes") (document doc.now))) }
+    ensures relations { IfOk result (λ i. map case_relation_of i.relations ≡ map reading.relation_of (list_at (codes "relations") (document doc.now))) }
+    ensures systems { IfOk result (λ i. map case_system_of i.systems ≡ map reading.system_of (list_at (codes "systems") (document doc.now))) }
+{
+    Ok(Items {
+        title: Word::of(alloc, doc.text_at("title"))?,
         nodes: nodes(alloc, doc.list_at("nodes"))?,
         relations: relations(alloc, doc.list_at("relations"))?,
         systems: systems(alloc, doc.list_at("systems"))?,
-    };
-    Ok(ReadCase { lifted, table })
+    })
+}
+
+/// The features of a document, and its table over them.
+fn features_and_table(alloc: Global, doc: &Doc) -> Result<(Names, Table), NoMemory>
+    requires { size_at (codes "features") (document doc.now) ≤ 256 }
+    ensures features { IfOk result (λ x. x.0 ≡ texts_in (list_at (codes "features") (document doc.now))) }
+    ensures rows { IfOk result (λ x. case_rows x.1.rows ≡ map reading.row_of (list_at (codes "table") (document doc.now))) }
+    ensures over { IfOk result (λ x. x.1.features ≡ length x.0) }
+{
+    let features = names(alloc, doc.list_at("features"))?;
+    let table = table(alloc, doc, features.count())?;
+    Ok((features, table))
 }
 
 /// The table of a document over so many features. One without faults has a table, so that none is refused but for want of memory.

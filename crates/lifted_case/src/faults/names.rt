@@ -51,6 +51,13 @@ pub fn first_bad_name(alloc: Global, items: &[Doc]) -> Result<Option<usize>, NoM
     ensures { IfOk result (λ place. place ≡ first_bad_after [] 0 (texts_in (documents items.now))) }
 {
     let mut seen = SeenNames::new(alloc);
+    first_bad_behind(&mut seen, items)
+}
+
+/// The same behind the names that were seen.
+fn first_bad_behind(seen: &mut SeenNames, items: &[Doc]) -> Result<Option<usize>, NoMemory>
+    ensures { IfOk result (λ place. place ≡ first_bad_after seen.old 0 (texts_in (documents items.now))) }
+{
     'items: for (i, item) in items.iter().enumerate() {
         let name = text_of(item);
         if !is_name(name) {

@@ -22,7 +22,7 @@ pub parse_and-ands-preserved : goal.parse_and-ands-preserved
 parse_and-ands-preserved t c = record {
   next = omega (arith, c.in_ok-right.ensures.next);
   within = c.in_ok-right.ensures.within;
-  phrase = rw (c.in_ok-new.ensures.ok, c.in_ok-new-2.ensures.ok)
+  phrase = rw (c.in_ok-left-2.ensures)
       (both_reads c.args.tokens.now c.args.at c.ands.next c.in_ok-right.after (expression c.ands.left) (expression c.in_ok-right.right) c.ands.invariant.phrase
       (sym c.token_at.ensures ∙ c.in-And.is) c.in_ok-right.ensures.phrase);
 }
@@ -44,7 +44,7 @@ pub parse_or-ors-preserved : goal.parse_or-ors-preserved
 parse_or-ors-preserved t c = record {
   next = omega (arith, c.in_ok-right.ensures.next);
   within = c.in_ok-right.ensures.within;
-  phrase = rw (c.in_ok-new.ensures.ok, c.in_ok-new-2.ensures.ok)
+  phrase = rw (c.in_ok-left-2.ensures)
       (either_reads c.args.tokens.now c.args.at c.ors.next c.in_ok-right.after (expression c.ors.left) (expression c.in_ok-right.right) c.ors.invariant.phrase
       (sym c.token_at.ensures ∙ c.in-Or.is) c.in_ok-right.ensures.phrase);
 }
@@ -66,7 +66,7 @@ pub parse_same-sames-preserved : goal.parse_same-sames-preserved
 parse_same-sames-preserved t c = record {
   next = omega (arith, c.in_ok-right.ensures.next);
   within = c.in_ok-right.ensures.within;
-  phrase = rw (c.in_ok-new.ensures.ok, c.in_ok-new-2.ensures.ok)
+  phrase = rw (c.in_ok-left-2.ensures)
       (same_reads c.args.tokens.now c.args.at c.sames.next c.in_ok-right.after (expression c.sames.left) (expression c.in_ok-right.right) c.sames.invariant.phrase
       (sym c.token_at.ensures ∙ c.in-Same.is) c.in_ok-right.ensures.phrase);
 }
@@ -77,9 +77,9 @@ parse_imp-parse_imp-requires t c =
     (sym c.token_at.ensures ∙ c.in-Implies.is) in
     (omega (arith, c.in_ok-left.ensures.next), can)
 
-pub parse_imp-returns-in_ok-new-in-Implies-2-clause-phrase : goal.parse_imp-returns-in_ok-new-in-Implies-2-clause-phrase
-parse_imp-returns-in_ok-new-in-Implies-2-clause-phrase t c =
-    rw (c.in_ok-new-in-Implies.ensures.ok, c.in_ok-new-in-Implies-2.ensures.ok)
+pub parse_imp-returns-in_ok-implies-in-Implies-clause-phrase : goal.parse_imp-returns-in_ok-implies-in-Implies-clause-phrase
+parse_imp-returns-in_ok-implies-in-Implies-clause-phrase t c =
+    rw (c.in_ok-implies-in-Implies.ensures)
     (implies_reads c.args.tokens.now c.args.at c.in_ok-left.next c.in_ok-consequence-in-Implies.after (expression c.in_ok-left.left) (expression c.in_ok-consequence-in-Implies.consequence)
     c.in_ok-left.ensures.phrase (sym c.token_at.ensures ∙ c.in-Implies.is) c.in_ok-consequence-in-Implies.ensures.phrase)
 

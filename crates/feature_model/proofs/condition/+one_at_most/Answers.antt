@@ -1,4 +1,4 @@
-use Rattle.std.proofs.Common.{◌≡◌, ◌∙◌, ap, ap₂, ◌-◌, arith}
+use Rattle.std.proofs.Common.{◌≡◌, ◌∙◌, ap₂, ◌-◌, arith}
 use Rattle.std.proofs.lemmas.Result.{IfOk-weaker}
 use Rattle.meaning.specs.Expressions.{Both, Implies, Not}
 use Rattle.cond_text.specs.View.{expression}
@@ -11,8 +11,7 @@ returns t c =
     let cs = c.args.children.now in
     let first = c.split_at.result.0.now in
     let others = c.split_at.result.1.now in
-    let apart : expression c.in_ok-apart.apart ≡ Implies (any_of first) (Not (any_of others)) =
-    c.in_ok-apart.ensures ∙ ap₂ (λ a b. Implies a b) c.in_ok-any_of-2.ensures (c.in_ok-none.ensures ∙ ap (λ a. Not a) c.in_ok-any_of.ensures) in
+    let apart : expression c.in_ok-apart.apart ≡ Implies (any_of first) (Not (any_of others)) = c.in_ok-apart.ensures in
     let each : expression c.in_ok-of_each.of_each ≡ Both (one_at_most (c.args.depth - 1) first) (one_at_most (c.args.depth - 1) others) =
     c.in_ok-of_each.ensures ∙ ap₂ (λ a b. Both a b) c.in_ok-of_first.ensures c.in_ok-of_others.ensures in
     IfOk-weaker c.both-2.result _ (λ e. expression e ≡ one_at_most c.args.depth cs)

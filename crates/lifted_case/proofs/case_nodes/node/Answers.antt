@@ -1,34 +1,5 @@
-use Rattle.std.proofs.Common.{◌++◌, List, ℕ, ap, map, subst}
-use Rattle.std.specs.Prelude.{codes, option_map}
-use Rattle.serde_json.specs.Data.{Data, string}
-use Rattle.meaning.specs.Cases.{kind_word}
-use Rattle.meaning.specs.CaseBytes.{natural_data, part_data, list_data, branch_members, finding_member}
-use Rattle.doc_tree.specs.View.{document}
-use Rattle.gsn.specs.View.{kind_of}
-use Rattle.lifted_case.specs.CaseView.{case_part_of}
-use Rattle.lifted_case.specs.CaseWritten.{AddsMembers, id_in, finding_with}
-use Rattle.lifted_case.proofs.Writing.{IsWritten-as}
-use Rattle.lifted_case.proofs.CaseMembers.{AddsMembers-then, AddsMembers-as, AddsMembers-all, IsWritten-natural, IsWritten-text, three_more}
+use Rattle.lifted_case.proofs.CaseMembers.{AddsMembers-all}
 use Rattle.lifted_case.proofs.case_nodes.node.Goals as goal
 
 pub returns : goal.returns
-returns c =
-    let own = c.args.node.now in
-    let id = id_in c.args.ids.now in
-    let branches = branch_members (map id own.branches) in
-    let finding = finding_member (option_map (finding_with id) own.finding) in
-    let key : List ℕ × Data = (codes "key", string own.key) in
-    let kind : List ℕ × Data = (codes "kind", string (kind_word (kind_of own.kind))) in
-    let text : List ℕ × Data = (codes "text", list_data part_data (map case_part_of own.text)) in
-    let when : List ℕ × Data = (codes "when", natural_data (id own.when)) in
-    let none = c.new-entries.result.items in
-    let first : AddsMembers none c.put_branches.new.entries.items branches =
-    subst (λ bs. AddsMembers none c.put_branches.new.entries.items (branch_members (map id bs))) c.list-2.ensures c.in_ok-put_branches.ensures in
-    let second : AddsMembers none c.put_finding.new.entries.items (branches ++ finding) = AddsMembers-then first c.in_ok-put_finding.ensures in
-    let third = AddsMembers-then second (c.in_ok-put.ensures key.1 (IsWritten-text c.text.ensures c.in_ok-key.ensures)) in
-    let fourth = AddsMembers-then third (c.in_ok-put-2.ensures kind.1 (IsWritten-text c.word.ensures c.in_ok-kind.ensures)) in
-    let fifth = AddsMembers-then fourth (c.in_ok-put-3.ensures text.1 (IsWritten-as (document c.in_ok-parts.parts) (list_data part_data (map case_part_of c.list.result.now)) text.1
-    (ap (λ ps. list_data part_data (map case_part_of ps)) c.list.ensures) c.in_ok-parts.ensures)) in
-    let sixth = AddsMembers-then (AddsMembers-as (three_more (branches ++ finding) key kind text) fifth) c.in_ok-put_undeveloped.ensures in
-    let seventh = AddsMembers-then sixth (c.in_ok-put-4.ensures when.1 (IsWritten-natural c.id.ensures c.number.ensures)) in
-    c.table.ensures _ (AddsMembers-all c.new-entries.ensures.items seventh)
+returns c = c.table.ensures _ (AddsMembers-all c.new-entries.ensures.items c.in_ok-put_members.ensures)
