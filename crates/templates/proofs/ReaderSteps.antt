@@ -1,5 +1,5 @@
 -- The rules at a node that read the variables in scope: the first one that is broken is the first of all.
-use Rattle.std.proofs.Common.{◌≡◌, refl, ap, sym, ◌∙◌, subst, ℕ, ◌≤◌, List, [], ◌++◌, Bool, length, map, take, Option, Some, None, arith}
+use Rattle.std.proofs.Common.{◌≡◌, refl, ap, sym, ◌∙◌, subst, ℕ, ◌≤◌, List, [], ◌++◌, Bool, length, map, take, append_assoc, Option, Some, None, arith}
 use Rattle.std.specs.Prelude.{Result, Ok, Err, IfOk, ◌&&◌, codes, option_map, option_and_then, unwrap_or}
 use Rattle.meaning.specs.Documents.{Document, text_at, truth_at, member_of}
 use Rattle.meaning.specs.Models.{Model}
@@ -7,8 +7,9 @@ use Rattle.meaning.specs.Queries as meaning
 use Rattle.meaning.specs.QueryTexts.{Scope}
 use Rattle.meaning.specs.TemplateTexts.{kind_of, parts_of, query_at, check_of, placed}
 use Rattle.meaning.specs.BundlePlaces.{Nodes, Broken, requires, broken_at, faults_at}
-use Rattle.meaning.specs.TemplateRules.{NodeContext, has_what_it_needs, has_nothing_else, undeveloped_is_right, each_has_variables, first_query_fault, place_if_any, hole_fault_of_node, check_is_right, use_is_right}
+use Rattle.meaning.specs.TemplateRules.{NodeContext, has_what_it_needs, has_nothing_else, undeveloped_is_right, first_query_fault, place_if_any, hole_fault_of_node, check_is_right, use_is_right}
 use Rattle.doc_tree.specs.declared.fault.Part.TheVariants as part
+use Rattle.doc_tree.specs.Places.{part_of}
 use Rattle.doc_tree.specs.View.{documents}
 use Rattle.path_queries.specs.declared.data.Query.{Query}
 use Rattle.path_queries.specs.View.{query}
@@ -19,92 +20,79 @@ use Rattle.templates.specs.declared.queries.QueryRead.{QueryRead}
 use Rattle.templates.specs.declared.reader.Reader.{Reader}
 use Rattle.templates.specs.Faults.{IsFirst, faults_here}
 use Rattle.templates.specs.View.{piece_view, check_view, kind_view, node_view}
-use Rattle.templates.specs.NodeRules.{among, seeing, members_right}
+use Rattle.templates.specs.NodeRules.{among, members_right}
 use Rattle.templates.specs.QueryReads.{parsed, Told, has_new, HasFew}
-use Rattle.templates.specs.Readers.{scoped_broken}
+use Rattle.templates.specs.Readers.{sees, members_broken, texts_broken, scoped_broken}
 use Rattle.templates.proofs.Firsts.{broken_in_front, broken_behind}
 use Rattle.templates.proofs.QueryLaws.{told_variables}
+
+-- what stops at the first or the second of two lists of rules at a place stops at both
+pub here_in_front : (place : Place) (xs ys : List Broken) (stop : TemplateStop) → IsFirst (faults_here place xs) stop → IsFirst (faults_here place (xs ++ ys)) stop
+here_in_front place xs ys stop first = broken_in_front (part_of place.part) place.item place.sub xs ys stop first
+
+pub here_behind : (place : Place) (xs ys : List Broken) (stop : TemplateStop) → xs ≡ [] → IsFirst (faults_here place ys) stop → IsFirst (faults_here place (xs ++ ys)) stop
+here_behind place xs ys stop none first = broken_behind (part_of place.part) place.item place.sub xs ys stop none first
+
+pub none_of_both : (xs ys : List Broken) → xs ≡ [] → ys ≡ [] → xs ++ ys ≡ []
+none_of_both xs ys a b = ap (λ zs. zs ++ ys) a ∙ b
 
 module _ (r : Reader) (scope : Scope) (i : ℕ) (d : Document) where
   abbrev above : NodeContext
   above = among r.counted (documents r.nodes.now)
 
-  abbrev sees : NodeContext
-  sees = seeing r.model.now (documents (take r.number r.docs.now)) scope
-
-  abbrev members : List Broken
-  members = requires 25 (members_right above sees (i, d))
-
   abbrev queries : List Broken
-  queries = broken_at 26 (place_if_any (first_query_fault sees (0, d)))
+  queries = broken_at 26 (place_if_any (first_query_fault (sees r scope) (0, d)))
 
   abbrev holes : List Broken
-  holes = broken_at 27 (hole_fault_of_node sees (0, d))
+  holes = broken_at 27 (hole_fault_of_node (sees r scope) (0, d))
 
   abbrev checks : List Broken
-  checks = requires 28 (check_is_right sees (0, d))
+  checks = requires 28 (check_is_right (sees r scope) (0, d))
 
   abbrev uses : List Broken
-  uses = requires 29 (use_is_right sees (0, d))
+  uses = requires 29 (use_is_right (sees r scope) (0, d))
 
   -- the members by what is read of `each`
   pub members_are : (each : QueryRead) (fit : Bool) → Told r.model.now scope (codes "each") d each
-      → fit ≡ (has_what_it_needs d && has_nothing_else (i, d) && undeveloped_is_right above (i, d) && has_new each) → fit ≡ members_right above sees (i, d)
+      → fit ≡ (has_what_it_needs d && has_nothing_else (i, d) && undeveloped_is_right above (i, d) && has_new each) → fit ≡ members_right above (sees r scope) (i, d)
   members_are each fit told is =
       is ∙ ap (λ b. has_what_it_needs d && has_nothing_else (i, d) && undeveloped_is_right above (i, d) && b)
       (told_variables r.model.now (documents (take r.number r.docs.now)) scope d each told)
 
-  pub no_members : (fit : Bool) → fit ≡ members_right above sees (i, d) → requires 25 fit ≡ [] → members ≡ []
-  no_members fit is none = ap (requires 25) (sym is) ∙ none
+  -- all rules: those on the members, on the queries, and on the texts
+  abbrev in_parts : List Broken
+  in_parts = members_broken r scope i d ++ queries ++ texts_broken r scope d
 
-  pub none_is : members ≡ [] → queries ≡ [] → holes ≡ [] → checks ≡ [] → uses ≡ [] → scoped_broken r scope i d ≡ []
-  none_is a b c e f =
-      ap (λ xs. xs ++ queries ++ holes ++ checks ++ uses) a
-      ∙ (ap (λ xs. xs ++ holes ++ checks ++ uses) b ∙ (ap (λ xs. xs ++ checks ++ uses) c ∙ (ap (λ xs. xs ++ uses) e ∙ f)))
+  parts_are : in_parts ≡ scoped_broken r scope i d
+  parts_are =
+      let front = members_broken r scope i d ++ queries in
+      sym (append_assoc front holes (checks ++ uses)) ∙ sym (append_assoc (front ++ holes) checks uses)
+
+  pub none_is : members_broken r scope i d ≡ [] → queries ≡ [] → texts_broken r scope d ≡ [] → scoped_broken r scope i d ≡ []
+  none_is a b c =
+      let front = members_broken r scope i d ++ queries in
+      sym parts_are ∙ none_of_both front (texts_broken r scope d) (none_of_both (members_broken r scope i d) queries a b) c
 
   module _ (place : Place) (place_is : place ≡ record { part = part.Nodes; item = r.number; sub = i }) (stop : TemplateStop) where
-    here : (broken : List Broken) → IsFirst (faults_here place broken) stop → IsFirst (faults_at Nodes r.number i broken) stop
-    here broken first = subst (λ p. IsFirst (faults_here p broken) stop) place_is first
+    abbrev Stops : Type 0
+    Stops = IsFirst (faults_at Nodes r.number i (scoped_broken r scope i d)) stop
 
-    abbrev Stops : List Broken → Type 0
-    Stops broken = IsFirst (faults_at Nodes r.number i broken) stop
+    here : IsFirst (faults_here place in_parts) stop → Stops
+    here first = subst (λ bs. IsFirst (faults_at Nodes r.number i bs) stop) parts_are (subst (λ p. IsFirst (faults_here p in_parts) stop) place_is first)
 
-    -- what stops in front of the later rules stops at all of them
-    past_checks : Stops (members ++ queries ++ holes ++ checks) → Stops (scoped_broken r scope i d)
-    past_checks first = broken_in_front Nodes r.number i (members ++ queries ++ holes ++ checks) uses stop first
+    past_queries : IsFirst (faults_here place (members_broken r scope i d ++ queries)) stop → Stops
+    past_queries first = here (here_in_front place (members_broken r scope i d ++ queries) (texts_broken r scope d) stop first)
 
-    past_holes : Stops (members ++ queries ++ holes) → Stops (scoped_broken r scope i d)
-    past_holes first = past_checks (broken_in_front Nodes r.number i (members ++ queries ++ holes) checks stop first)
+    pub members_stop : IsFirst (faults_here place (members_broken r scope i d)) stop → Stops
+    members_stop first = past_queries (here_in_front place (members_broken r scope i d) queries stop first)
 
-    past_queries : Stops (members ++ queries) → Stops (scoped_broken r scope i d)
-    past_queries first = past_holes (broken_in_front Nodes r.number i (members ++ queries) holes stop first)
+    module _ (a : members_broken r scope i d ≡ []) where
+      pub queries_stop : IsFirst (faults_here place queries) stop → Stops
+      queries_stop first = past_queries (here_behind place (members_broken r scope i d) queries stop a first)
 
-    pub members_stop : (fit : Bool) → fit ≡ members_right above sees (i, d) → IsFirst (faults_here place (requires 25 fit)) stop → Stops (scoped_broken r scope i d)
-    members_stop fit is first =
-        past_queries
-        (broken_in_front Nodes r.number i members queries stop (here members (subst (λ b. IsFirst (faults_here place (requires 25 b)) stop) is first)))
-
-    module _ (a : members ≡ []) where
-      pub queries_stop : IsFirst (faults_here place queries) stop → Stops (scoped_broken r scope i d)
-      queries_stop first = past_queries (broken_behind Nodes r.number i members queries stop a (here queries first))
-
-      module _ (b : queries ≡ []) where
-        none_before : members ++ queries ≡ []
-        none_before = ap (λ xs. xs ++ queries) a ∙ b
-
-        pub holes_stop : IsFirst (faults_here place holes) stop → Stops (scoped_broken r scope i d)
-        holes_stop first = past_holes (broken_behind Nodes r.number i (members ++ queries) holes stop none_before (here holes first))
-
-        module _ (c : holes ≡ []) where
-          none_in_front : members ++ queries ++ holes ≡ []
-          none_in_front = ap (λ xs. xs ++ holes) none_before ∙ c
-
-          pub check_stops : IsFirst (faults_here place checks) stop → Stops (scoped_broken r scope i d)
-          check_stops first = past_checks (broken_behind Nodes r.number i (members ++ queries ++ holes) checks stop none_in_front (here checks first))
-
-          pub use_stops : checks ≡ [] → IsFirst (faults_here place uses) stop → Stops (scoped_broken r scope i d)
-          use_stops e first =
-              broken_behind Nodes r.number i (members ++ queries ++ holes ++ checks) uses stop (ap (λ xs. xs ++ checks) none_in_front ∙ e) (here uses first)
+      pub texts_stop : queries ≡ [] → IsFirst (faults_here place (texts_broken r scope d)) stop → Stops
+      texts_stop b first =
+          here (here_behind place (members_broken r scope i d ++ queries) (texts_broken r scope d) stop (none_of_both (members_broken r scope i d) queries a b) first)
 
 -- what holds anyhow holds where there is a value
 pub anyhow : {X E : Type 0} (result : Result X E) (P : Type 0) → P → IfOk result (λ _. P)

@@ -22,7 +22,7 @@ use crate::kinds::annotates;
 use crate::members::stands_in_place;
 use crate::names::{add_new, is_known};
 use crate::node_form::check_form;
-use crate::reader::{NodeRead, Reader};
+use crate::reader::{NodeRead, Reader, node_of};
 use crate::scopes::Scopes;
 use crate::support::{NODE_LIMIT, above_of, support_of};
 use annotated_model::Model;
@@ -35,6 +35,22 @@ use std::alloc::Global;
 pub struct Seen {
     pub ids: Names,
     pub scopes: Scopes,
+}
+
+impl Seen {
+    /// Where no node is read.
+    fn new(alloc: Global, parameters: &[(Word, u16)]) -> Result<Seen, TemplateStop>
+        ensures ids { IfOk result (λ s. s.ids ≡ []) }
+        ensures all { IfOk result (λ s. s.scopes.all.items ≡ parameters.now ∷ []) }
+        ensures spots { IfOk result (λ s. s.scopes.spots.items ≡ []) }
+        ensures stop { IfErr result (λ stop. stop ≡ NoMemory) }
+    {
+        let scopes = Scopes::new(alloc, parameters)?;
+        Ok(Seen {
+            ids: Names::new(alloc),
+            scopes,
+        })
+    }
 }
 
 /// A node, and the place of the scope at it.
@@ -77,8 +93,36 @@ impl Reader<'_> {
         place.require(24, stands_in_place(self.nodes, above, number, node))?;
         let place = seen.scopes.place_under(above, annotates(node));
         let scope = seen.scopes.at(place);
-        let read = self.read_scoped(alloc, scope, above, never, number, node)?;
+        let parts = self.read_scoped(alloc, scope, number, node)?;
+        let read = node_of(self.model, self.names, scope, above, parts, never, node);
         Ok(PlacedNode { read, place })
+    }
+
+    /// Adds the nodes behind none, where they break no rule.
+    fn add_nodes(
+        &self,
+        alloc: Global,
+        seen: &mut Seen,
+        nodes: &mut Vec<TNode>,
+    ) -> Result<(), TemplateStop>
+        requires fits { ReaderFits self.now }
+        requires seen { SeenFits self.now seen.old 0 }
+        requires nodes { nodes.old.items ≡ [] }
+        ensures value { OnOk result (map node_view nodes.new.items
+            ≡ nodes_told self.now.model.now self.now.names.now self.now.parameters.now (ids_of self.now) [] (documents self.now.nodes.now)) }
+        ensures within { IfOk result (λ _. self.now.counted + length self.now.nodes.now ≤ 1024) }
+        ensures none { IfOk result (λ _. nodes_broken (around_of self.now) [] 0 (documents self.now.nodes.now) ≡ []) }
+        ensures fault { IfErr result (IsFirst (nodes_broken (around_of self.now) [] 0 (documents self.now.nodes.now))) }
+    {
+        'nodes: for (number, node) in self.nodes.iter().enumerate() {
+            let found = self.read_node(alloc, seen, number, node)?;
+            let PlacedNode { read, place } = found;
+            let NodeRead { node: value, new } = read;
+            nodes.push(value)?;
+            seen.scopes.add(alloc, place, new)?;
+            add_new(&mut seen.ids, node.text_at("id"))?;
+        }
+        Ok(())
     }
 
     /// The nodes, where they break no rule.
@@ -90,19 +134,9 @@ impl Reader<'_> {
         ensures none { IfOk result (λ row. nodes_broken (around_of self.now) [] 0 (documents self.now.nodes.now) ≡ []) }
         ensures fault { IfErr result (IsFirst (nodes_broken (around_of self.now) [] 0 (documents self.now.nodes.now))) }
     {
-        let mut seen = Seen {
-            ids: Names::new(alloc),
-            scopes: Scopes::new(alloc, self.parameters)?,
-        };
         let mut nodes = Vec::new(alloc);
-        'nodes: for (number, node) in self.nodes.iter().enumerate() {
-            let found = self.read_node(alloc, &seen, number, node)?;
-            let PlacedNode { read, place } = found;
-            let NodeRead { node: value, new } = read;
-            nodes.push(value)?;
-            seen.scopes.add(alloc, place, new)?;
-            add_new(&mut seen.ids, node.text_at("id"))?;
-        }
+        let mut seen = Seen::new(alloc, self.parameters)?;
+        self.add_nodes(alloc, &mut seen, &mut nodes)?;
         Ok(Row::of(nodes))
     }
 }

@@ -1,6 +1,6 @@
 //! Parameters of templates.
 
-ghost use Rattle.std.specs.Prelude.{◌≡◌, ◌≤◌, ◌<◌, ◌^◌, [], Some, IfOk, IfErr, codes, map, false, length};
+ghost use Rattle.std.specs.Prelude.{◌≡◌, ◌≤◌, ◌<◌, ◌^◌, [], Some, IfOk, IfErr, OnOk, codes, map, false, length};
 ghost use Rattle.std.specs.List.{All};
 ghost use Rattle.meaning.specs.Documents.{text_at, list_at};
 ghost use Rattle.meaning.specs.QueryTexts as queries;
@@ -57,6 +57,32 @@ fn read_parameter(
     }
 }
 
+/// Adds the parameters of a template, and their names.
+fn add_items(
+    alloc: Global,
+    model: &Model,
+    template: usize,
+    items: &[Doc],
+    names: &mut Names,
+    row: &mut Vec<(Word, u16)>,
+) -> Result<(), TemplateStop>
+    requires types { length model.now.types ≤ 65536 }
+    requires template { template < 2 ^ 32 }
+    requires names { names.old ≡ [] }
+    requires row { row.old.items ≡ [] }
+    ensures value { OnOk result (row.new.items ≡ map (parameter_of model.now) (documents items.now)) }
+    ensures known { OnOk result (types_named model.now (documents items.now) ≡ types_known row.new.items) }
+    ensures few { OnOk result (length row.new.items ≤ 8) }
+    ensures none { OnOk result (parameters_broken model.now template [] 0 (documents items.now) ≡ []) }
+    ensures fault { IfErr result (IsFirst (parameters_broken model.now template [] 0 (documents items.now))) }
+{
+    'items: for (number, item) in items.iter().enumerate() {
+        row.push(read_parameter(alloc, model, names, template, number, item)?)?;
+        add_new(names, item.text_at("name"))?;
+    }
+    Ok(())
+}
+
 fn read_items(
     alloc: Global,
     model: &Model,
@@ -73,10 +99,7 @@ fn read_items(
 {
     let mut names = Names::new(alloc);
     let mut row = Vec::new(alloc);
-    'items: for (number, item) in items.iter().enumerate() {
-        row.push(read_parameter(alloc, model, &names, template, number, item)?)?;
-        add_new(&mut names, item.text_at("name"))?;
-    }
+    add_items(alloc, model, template, items, &mut names, &mut row)?;
     Ok(Row::of(row))
 }
 

@@ -7,13 +7,13 @@ ghost use Rattle.meaning.specs.TemplateTexts.{placed, parts_of};
 ghost use Rattle.meaning.specs.TemplateRules as rules;
 ghost use Rattle.cond_text.specs.View.{expression};
 ghost use Rattle.doc_tree.specs.View.{document, documents};
-ghost use Rattle.templates.specs.Faults.{IsFirst};
-ghost use Rattle.templates.specs.declared.fault.TemplateStop.TheVariants.{NoMemory};
+ghost use Rattle.templates.specs.Faults.{IsFirst, faults_here};
 ghost use Rattle.templates.specs.View.{piece_view, node_view};
 ghost use Rattle.templates.specs.CheckReads.{never_in};
-ghost use Rattle.templates.specs.QueryReads.{AreRead, has_new};
+ghost use Rattle.templates.specs.QueryReads.{Told, has_new};
+ghost use Rattle.templates.specs.UseReads.{arguments_in};
 ghost use Rattle.templates.specs.NodeRules.{among, FormedBefore};
-ghost use Rattle.templates.specs.Readers.{ReaderFits, scoped_broken, new_variables_in};
+ghost use Rattle.templates.specs.Readers.{ReaderFits, PartsFit, members_broken, rest_broken, texts_broken, scoped_broken, new_variables_in};
 
 use crate::checks::{check_is_right, check_of};
 use crate::data::{Piece, TNode};
@@ -43,6 +43,22 @@ pub struct Reader<'a> {
     pub counted: usize,
     pub nodes: &'a [Doc],
     pub support: &'a Support,
+}
+
+/// The texts of a node.
+#[derive(Drop)]
+pub struct NodeTexts {
+    pub id: Word,
+    pub text: Row<Piece>,
+    /// The variables that a use gives.
+    pub args: Row<u16>,
+}
+
+/// What a node tells in its scope: its queries, each with its new variables, and its texts.
+#[derive(Drop)]
+pub struct NodeParts {
+    pub queries: NodeQueries,
+    pub texts: NodeTexts,
 }
 
 /// A node, and the new variables of its `each`.
@@ -76,40 +92,38 @@ fn query_parts(
 }
 
 /// The node of a document, from its parts.
-fn node_of(
-    alloc: Global,
+pub fn node_of(
     model: &Model,
     names: &Names,
     scope: &[(Word, u16)],
     above: Option<u16>,
-    queries: NodeQueries,
-    text: Row<Piece>,
+    parts: NodeParts,
     never: Option<Expr>,
     node: &Doc,
-) -> Result<NodeRead, TemplateStop>
+) -> NodeRead
     requires few { length scope.now ≤ 65536 }
-    requires queries { AreRead model.now scope.now (document node.now) queries }
-    requires text { map piece_view text ≡ parts_of model.now scope.now (text_at (codes "text") (document node.now)) }
+    requires parts { PartsFit model.now scope.now (document node.now) parts }
     requires never { option_map expression never ≡ never_in model.now.labels (rules.check_in (document node.now)) }
-    ensures node { IfOk result (λ r. node_view r.node ≡ (placed model.now names.now above scope.now (document node.now)).node) }
-    ensures new { IfOk result (λ r. r.new ≡ new_variables_in model.now scope.now (document node.now)) }
-    ensures few { IfOk result (λ r. length (unwrap_or r.new []) ≤ 3) }
-    ensures stop { IfErr result (λ stop. stop ≡ NoMemory) }
+    ensures node { node_view result.node ≡ (placed model.now names.now above scope.now (document node.now)).node }
+    ensures new { result.new ≡ new_variables_in model.now scope.now (document node.now) }
+    ensures few { length (unwrap_or result.new []) ≤ 3 }
 {
+    let NodeParts { queries, texts } = parts;
     let NodeQueries { each, guard, check } = queries;
+    let NodeTexts { id, text, args } = texts;
     let (new, each) = query_parts(each);
     let node = TNode {
-        id: Word::of(alloc, node.text_at("id"))?,
+        id,
         kind: kind_of(names, node),
         under: above,
         text,
         each,
         guard: query_alone(guard),
         check: check_of(model, scope, never, check, node),
-        args: arguments_of(alloc, scope, node)?,
+        args,
         undeveloped: node.truth_at("undeveloped"),
     };
-    Ok(NodeRead { node, new })
+    NodeRead { node, new }
 }
 
 impl Reader<'_> {
@@ -135,37 +149,43 @@ impl Reader<'_> {
             && has_variables(each)
     }
 
-    /// What the node of a number tells in this scope, where it breaks none of the rules that read the scope.
-    pub fn read_scoped(
+    /// What the `each` of the node of a number tells, where the node has the members that it may have.
+    fn read_each(
         &self,
         alloc: Global,
+        place: Place,
         scope: &[(Word, u16)],
-        above: Option<u16>,
-        never: Option<Expr>,
         number: usize,
         node: &Doc,
-    ) -> Result<NodeRead, TemplateStop>
+    ) -> Result<QueryRead, TemplateStop>
         requires fits { ReaderFits self.now }
         requires few { length scope.now ≤ 65532 }
-        requires number { number < 1024 }
         requires texts { rules.node_texts_fit (document node.now) ≡ true }
         requires formed { FormedBefore self.now.counted (documents self.now.nodes.now) (number + 1) }
-        requires never { option_map expression never ≡ never_in self.now.model.now.labels (rules.check_in (document node.now)) }
-        ensures node { IfOk result (λ r. node_view r.node ≡ (placed self.now.model.now self.now.names.now above scope.now (document node.now)).node) }
-        ensures new { IfOk result (λ r. r.new ≡ new_variables_in self.now.model.now scope.now (document node.now)) }
-        ensures few { IfOk result (λ r. length (unwrap_or r.new []) ≤ 3) }
-        ensures none { IfOk result (λ r. scoped_broken self.now scope.now number (document node.now) ≡ []) }
-        ensures fault { IfErr result (IsFirst (faults_at Nodes self.now.number number (scoped_broken self.now scope.now number (document node.now)))) }
+        ensures told { IfOk result (Told self.now.model.now scope.now (codes "each") (document node.now)) }
+        ensures none { IfOk result (λ _. members_broken self.now scope.now number (document node.now) ≡ []) }
+        ensures fault { IfErr result (IsFirst (faults_here place (members_broken self.now scope.now number (document node.now)))) }
     {
-        let place = Place::inside(Part::Nodes, self.number, number);
-        let model = self.model;
-        let each = read_member(alloc, model, scope, "each", node)?;
+        let each = read_member(alloc, self.model, scope, "each", node)?;
         place.require(25, self.members_fit(&each, number, node))?;
-        let queries = read_queries(alloc, place, model, scope, each, node)?;
-        let text = read_words(alloc, place, model, scope, node)?;
-        place.require(28, check_is_right(model, scope, node))?;
+        Ok(each)
+    }
+
+    /// The check of a node is one, and its use is of an earlier template, if it has them.
+    fn require_rest(
+        &self,
+        place: Place,
+        scope: &[(Word, u16)],
+        node: &Doc,
+    ) -> Result<(), TemplateStop>
+        requires fits { ReaderFits self.now }
+        requires few { length scope.now ≤ 65532 }
+        ensures none { IfOk result (λ _. rest_broken self.now scope.now (document node.now) ≡ []) }
+        ensures fault { IfErr result (IsFirst (faults_here place (rest_broken self.now scope.now (document node.now)))) }
+    {
+        place.require(28, check_is_right(self.model, scope, node))?;
         let fits = use_is_right(
-            model,
+            self.model,
             self.docs,
             self.names,
             self.all_parameters,
@@ -173,9 +193,53 @@ impl Reader<'_> {
             scope,
             node,
         );
-        place.require(29, fits)?;
-        node_of(
-            alloc, model, self.names, scope, above, queries, text, never, node,
-        )
+        place.require(29, fits)
+    }
+
+    /// The texts of a node, where it breaks none of the rules behind those of its queries.
+    fn read_texts(
+        &self,
+        alloc: Global,
+        place: Place,
+        scope: &[(Word, u16)],
+        node: &Doc,
+    ) -> Result<NodeTexts, TemplateStop>
+        requires fits { ReaderFits self.now }
+        requires few { length scope.now ≤ 65532 }
+        requires texts { rules.node_texts_fit (document node.now) ≡ true }
+        ensures text { IfOk result (λ t. map piece_view t.text ≡ parts_of self.now.model.now scope.now (text_at (codes "text") (document node.now))) }
+        ensures args { IfOk result (λ t. t.args ≡ arguments_in scope.now (document node.now)) }
+        ensures none { IfOk result (λ _. texts_broken self.now scope.now (document node.now) ≡ []) }
+        ensures fault { IfErr result (IsFirst (faults_here place (texts_broken self.now scope.now (document node.now)))) }
+    {
+        let text = read_words(alloc, place, self.model, scope, node)?;
+        self.require_rest(place, scope, node)?;
+        let args = arguments_of(alloc, scope, node)?;
+        let id = Word::of(alloc, node.text_at("id"))?;
+        Ok(NodeTexts { id, text, args })
+    }
+
+    /// What the node of a number tells in this scope, where it breaks none of the rules that read the scope.
+    pub fn read_scoped(
+        &self,
+        alloc: Global,
+        scope: &[(Word, u16)],
+        number: usize,
+        node: &Doc,
+    ) -> Result<NodeParts, TemplateStop>
+        requires fits { ReaderFits self.now }
+        requires few { length scope.now ≤ 65532 }
+        requires number { number < 1024 }
+        requires texts { rules.node_texts_fit (document node.now) ≡ true }
+        requires formed { FormedBefore self.now.counted (documents self.now.nodes.now) (number + 1) }
+        ensures parts { IfOk result (PartsFit self.now.model.now scope.now (document node.now)) }
+        ensures none { IfOk result (λ _. scoped_broken self.now scope.now number (document node.now) ≡ []) }
+        ensures fault { IfErr result (IsFirst (faults_at Nodes self.now.number number (scoped_broken self.now scope.now number (document node.now)))) }
+    {
+        let place = Place::inside(Part::Nodes, self.number, number);
+        let each = self.read_each(alloc, place, scope, number, node)?;
+        let queries = read_queries(alloc, place, self.model, scope, each, node)?;
+        let texts = self.read_texts(alloc, place, scope, node)?;
+        Ok(NodeParts { queries, texts })
     }
 }

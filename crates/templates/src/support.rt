@@ -1,6 +1,6 @@
 //! What the nodes of a template tell of each other: whether all have their form, and which are supported.
 
-ghost use Rattle.std.specs.Prelude.{◌≡◌, ◌+◌, ◌<◌, ◌≤◌, ◌&&◌, not, false, true, ℕ, None, length, vec_len, slice_index_or, if◌then◌else◌, IfOk, IfErr, IfSome};
+ghost use Rattle.std.specs.Prelude.{◌≡◌, ◌+◌, ◌<◌, ◌≤◌, ◌&&◌, not, false, true, ℕ, None, [], length, vec_len, slice_index_or, if◌then◌else◌, IfOk, IfErr, IfSome};
 ghost use Rattle.std.specs.List.{list_any};
 ghost use Rattle.meaning.specs.Texts.{numbered};
 ghost use Rattle.meaning.specs.ModelRules as model_rules;
@@ -62,6 +62,33 @@ fn mark(marks: &mut Vec<bool>, number: Option<u16>)
     }
 }
 
+/// Marks the nodes that a node supports, and tells whether every node has its form, behind so many nodes of earlier templates.
+fn mark_supported(
+    counted: usize,
+    nodes: &[Doc],
+    ids: &mut Names,
+    marks: &mut Vec<bool>,
+) -> Result<bool, TemplateStop>
+    requires counted { counted ≤ 1024 }
+    requires ids { ids.old ≡ [] }
+    requires marks { marks.old.items ≡ [] }
+    ensures formed { IfOk result (λ formed. formed ≡ all_formed counted (documents nodes.now)) }
+    ensures marks { IfOk result (λ formed. formed ≡ true → (j : ℕ)
+        → slice_index_or marks.new.items j false ≡ list_any (supports_node (documents nodes.now) j) (numbered (documents nodes.now))) }
+    ensures stop { IfErr result (λ stop. stop ≡ NoMemory) }
+{
+    'nodes: for (number, node) in nodes.iter().enumerate() {
+        let new = !is_known(ids, node.text_at("id"));
+        if !is_formed(new, counted + number != NODE_LIMIT, node) {
+            return Ok(false);
+        }
+        mark(marks, supported_by(ids, node));
+        marks.push(false)?;
+        add_new(ids, node.text_at("id"))?;
+    }
+    Ok(true)
+}
+
 /// What the nodes of a template tell of each other, behind so many nodes of earlier templates.
 pub fn support_of(alloc: Global, counted: usize, nodes: &[Doc]) -> Result<Support, TemplateStop>
     requires { counted ≤ 1024 }
@@ -72,22 +99,8 @@ pub fn support_of(alloc: Global, counted: usize, nodes: &[Doc]) -> Result<Suppor
 {
     let mut ids = Names::new(alloc);
     let mut marks = Vec::new(alloc);
-    'nodes: for (number, node) in nodes.iter().enumerate() {
-        let new = !is_known(&ids, node.text_at("id"));
-        if !is_formed(new, counted + number != NODE_LIMIT, node) {
-            return Ok(Support {
-                formed: false,
-                marks,
-            });
-        }
-        mark(&mut marks, supported_by(&ids, node));
-        marks.push(false)?;
-        add_new(&mut ids, node.text_at("id"))?;
-    }
-    Ok(Support {
-        formed: true,
-        marks,
-    })
+    let formed = mark_supported(counted, nodes, &mut ids, &mut marks)?;
+    Ok(Support { formed, marks })
 }
 
 /// Whether a node supports the node with this number, where every node has its form.

@@ -5,4 +5,4 @@ use Rattle.templates.proofs.reader.node_of.Goals as goal
 
 pub returns-clause-few : goal.returns-clause-few
 returns-clause-few c =
-    subst (λ new. length (unwrap_or new []) ≤ 3) (sym c.query_parts-new.ensures.new) (few_new c.args.queries.each c.requires.queries.few)
+    subst (λ new. length (unwrap_or new []) ≤ 3) (sym c.query_parts-new.ensures.new) (few_new c.args.parts.queries.each c.requires.parts.queries.few)

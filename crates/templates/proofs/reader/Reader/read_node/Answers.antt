@@ -1,4 +1,4 @@
-use Rattle.std.proofs.Common.{◌≡◌, ◌+◌, refl, [], sym, ap, ◌∙◌, subst, arith}
+use Rattle.std.proofs.Common.{◌+◌, refl, [], sym, ap, ◌∙◌, subst, arith}
 use Rattle.std.specs.Prelude.{not, codes, unwrap_or}
 use Rattle.meaning.specs.BundlePlaces.{Nodes, requires, faults_at, is_among}
 use Rattle.meaning.specs.LineRules.{is_within, expression_rules}
@@ -78,6 +78,11 @@ pub read_scoped-requires-clause-few : goal.read_scoped-requires-clause-few
 read_scoped-requires-clause-few c =
     scope_short c.args.self.now c.args.seen.now c.args.number (document c.args.node.now) c.requires.seen c.place_under-place.result c.at-scope.result.now c.at-scope.ensures
 
+pub node_of-read-requires-clause-few : goal.node_of-read-requires-clause-few
+node_of-read-requires-clause-few c =
+    let few = scope_short c.args.self.now c.args.seen.now c.args.number (document c.args.node.now) c.requires.seen c.place_under-place.result c.at-scope.result.now c.at-scope.ensures in
+    omega arith
+
 pub read_scoped-requires-clause-formed : goal.read_scoped-requires-clause-formed
 read_scoped-requires-clause-formed c =
     let r = c.args.self.now in
@@ -90,8 +95,8 @@ read_scoped-requires-clause-formed c =
     formed_more r seen i c.args.node.now c.requires.seen c.requires.inside (item_is r.nodes.now i c.args.node.now c.requires.item) new within known refl
     c.in_ok-check_form.ensures.none c.requires.formed
 
-pub returns-in_err-read-clause-fault : goal.returns-in_err-read-clause-fault
-returns-in_err-read-clause-fault c =
+pub returns-in_err-parts-clause-fault : goal.returns-in_err-parts-clause-fault
+returns-in_err-parts-clause-fault c =
     let r = c.args.self.now in
     let seen = c.args.seen.now in
     let i = c.args.number in
@@ -105,10 +110,10 @@ returns-in_err-read-clause-fault c =
     c.annotates.result c.annotates.ensures c.place_under-place.result c.place_under-place.ensures in
     let scope = c.at-scope.result.now in
     let scope_is = ap (λ o. unwrap_or o []) (sym c.at-scope.ensures ∙ found) in
-    let stop = c.in_err-read.field-0.0 in
-    at_error c.from_residual-in_err-read.result stop (IsFirst (faults_at Nodes r.number i (next_broken r seen i d)))
+    let stop = c.in_err-parts.field-0.0 in
+    at_error c.from_residual-in_err-parts.result stop (IsFirst (faults_at Nodes r.number i (next_broken r seen i d)))
     (scoped_stops r seen i d c.requires.seen new within known refl c.inside-place.result c.inside-place.ensures stop c.in_ok-check_form.ensures.none
-    never stood scope scope_is c.in_err-read.ensures.fault) c.from_residual-in_err-read.ensures.1
+    never stood scope scope_is c.in_err-parts.ensures.fault) c.from_residual-in_err-parts.ensures.1
 
 pub returns-clause-node : goal.returns-clause-node
 returns-clause-node c =
@@ -121,7 +126,7 @@ returns-clause-node c =
     let scope = c.at-scope.result.now in
     let scope_is = ap (λ o. unwrap_or o []) (sym c.at-scope.ensures ∙ found) in
     told_next r seen i d c.requires.seen c.above_of-above.result c.above_of-above.ensures (sym c.stands_in_place.ensures ∙ c.in_ok-require.ensures.ok)
-    (node_view c.in_ok-read.read.node) scope scope_is c.in_ok-read.ensures.node
+    (node_view c.node_of-read.result.node) scope scope_is c.node_of-read.ensures.node
 
 pub returns-clause-place : goal.returns-clause-place
 returns-clause-place c =
@@ -142,7 +147,7 @@ returns-clause-new c =
     c.annotates.result c.annotates.ensures c.place_under-place.result c.place_under-place.ensures in
     let scope = c.at-scope.result.now in
     let scope_is = ap (λ o. unwrap_or o []) (sym c.at-scope.ensures ∙ found) in
-    c.in_ok-read.ensures.new ∙ ap (λ s. new_variables_in r.model.now s d) scope_is
+    c.node_of-read.ensures.new ∙ ap (λ s. new_variables_in r.model.now s d) scope_is
 
 pub returns-clause-within : goal.returns-clause-within
 returns-clause-within c =
@@ -175,4 +180,4 @@ returns-clause-none c =
     c.annotates.result c.annotates.ensures c.place_under-place.result c.place_under-place.ensures in
     let scope = c.at-scope.result.now in
     let scope_is = ap (λ o. unwrap_or o []) (sym c.at-scope.ensures ∙ found) in
-    next_none r seen i d c.requires.seen new within known refl c.in_ok-check_form.ensures.none never stood scope scope_is c.in_ok-read.ensures.none
+    next_none r seen i d c.requires.seen new within known refl c.in_ok-check_form.ensures.none never stood scope scope_is c.in_ok-parts.ensures.none

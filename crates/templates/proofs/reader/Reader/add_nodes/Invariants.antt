@@ -1,10 +1,10 @@
-use Rattle.std.proofs.Common.{◌≡◌, ◌≤◌, ◌++◌, [], map, drop}
+use Rattle.std.proofs.Common.{◌≡◌, ◌++◌, [], map, drop}
 use Rattle.doc_tree.specs.View.{documents}
 use Rattle.templates.specs.View.{node_view}
 use Rattle.templates.specs.NodeRules.{FormedBefore, nodes_told, nodes_broken}
 use Rattle.templates.specs.Readers.{around_of, ids_of}
 use Rattle.templates.specs.Seen.{SeenFits, scopes_of}
-use Rattle.templates.proofs.reader.Reader.read_nodes.Given as goal
+use Rattle.templates.proofs.reader.Reader.add_nodes.Given as goal
 
 abbrev pub invariant-nodes : goal.invariant-nodes
 invariant-nodes l = record {

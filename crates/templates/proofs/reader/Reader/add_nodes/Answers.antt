@@ -1,4 +1,4 @@
-use Rattle.std.proofs.Common.{◌≡◌, ◌+◌, ◌<◌, ◌≤◌, [], ◌∷◌, ◌++◌, refl, sym, ap, ◌∙◌, subst, map, length, drop, arith}
+use Rattle.std.proofs.Common.{◌+◌, [], ◌∷◌, ◌++◌, refl, sym, ap, ◌∙◌, map, drop, arith}
 use Rattle.meaning.specs.BundlePlaces.{is_among}
 use Rattle.doc_tree.specs.View.{document, documents}
 use Rattle.templates.specs.declared.nodes.Seen.{Seen}
@@ -9,17 +9,17 @@ use Rattle.templates.specs.Readers.{around_of, ids_of}
 use Rattle.templates.specs.Seen.{scopes_of, scope_next}
 use Rattle.templates.proofs.Firsts.{at_error}
 use Rattle.templates.proofs.SupportLaws.{ids_before, ids_many}
-use Rattle.templates.proofs.NodeSteps.{item_inside, seen_start, seen_more, told_more, clear_more, node_stops, told_whole, clear_whole}
-use Rattle.templates.proofs.reader.Reader.read_nodes.Goals as goal
+use Rattle.templates.proofs.NodeSteps.{item_inside, seen_more, told_more, clear_more, node_stops, clear_whole}
+use Rattle.templates.proofs.reader.Reader.add_nodes.Goals as goal
 
 pub returns-in_err-found-clause-fault : goal.returns-in_err-found-clause-fault
 returns-in_err-found-clause-fault c =
     let r = c.args.self.now in
     let stop = c.in_err-found.field-0.0 in
     let all = nodes_broken (around_of r) [] 0 (documents r.nodes.now) in
-    at_error c.from_residual-in_err-found.result stop (IsFirst all)
+    at_error c.from_residual.result stop (IsFirst all)
     (node_stops r c.nodes.seen c.nodes.number c.node-item.result all stop (omega arith) c.node-item.is c.nodes.invariant.none c.in_err-found.ensures.fault)
-    c.from_residual-in_err-found.ensures.1
+    c.from_residual.ensures.1
 
 pub add-requires : goal.add-requires
 add-requires c = item_inside c.nodes.seen.scopes.all.items c.in_ok-found.found.place (scope_next c.args.self.now c.nodes.seen (document c.node-item.result)) c.in_ok-found.ensures.place

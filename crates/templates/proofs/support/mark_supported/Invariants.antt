@@ -3,7 +3,7 @@ use Rattle.meaning.specs.TemplateRules.{id_in}
 use Rattle.doc_tree.specs.View.{documents}
 use Rattle.templates.specs.NodeRules.{FormedBefore}
 use Rattle.templates.proofs.SupportLaws.{MarksBefore}
-use Rattle.templates.proofs.support.support_of.Given as goal
+use Rattle.templates.proofs.support.mark_supported.Given as goal
 
 abbrev pub invariant-nodes : goal.invariant-nodes
 invariant-nodes l = record {

@@ -1,14 +1,13 @@
-use Rattle.std.proofs.Common.{◌≡◌, sym, ap, ◌∙◌, ◌+◌, ◌<◌, ◌≤◌, [], ◌∷◌, ◌++◌, length, get_or, take, map, true, false, vec_len, arith, rules}
-use Rattle.std.specs.Prelude.{not, IfSome, slice_index_or, if◌then◌else◌, None}
+use Rattle.std.proofs.Common.{◌≡◌, sym, ap, ◌∙◌, ◌+◌, [], ◌∷◌, ◌++◌, length, get_or, take, map, true, false, vec_len, arith, rules}
+use Rattle.std.specs.Prelude.{not, if◌then◌else◌, None}
 use Rattle.meaning.specs.BundlePlaces.{is_among}
 use Rattle.meaning.specs.LineRules.{is_within}
 use Rattle.meaning.specs.ModelRules.{is_formed}
 use Rattle.meaning.specs.TemplateRules.{id_in, kind_in, supports}
 use Rattle.doc_tree.specs.View.{document, documents}
-use Rattle.templates.specs.Marks.{marked}
 use Rattle.templates.specs.NodeRules.{form_with, above_among}
 use Rattle.templates.proofs.SupportLaws.{ids_before, doc_inside, doc_past, doc_is, not_false, not_true, within_more, ids_many, ids_more, formed_next, unformed_next, formed_to_end, marks_more, marks_to_end, supported_inside}
-use Rattle.templates.proofs.support.support_of.Goals as goal
+use Rattle.templates.proofs.support.mark_supported.Goals as goal
 
 pub returns-then-not-is_formed-clause-formed : goal.returns-then-not-is_formed-clause-formed
 returns-then-not-is_formed-clause-formed c =

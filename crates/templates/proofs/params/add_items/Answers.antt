@@ -4,7 +4,7 @@ use Rattle.doc_tree.specs.View.{document, documents}
 use Rattle.templates.specs.Faults.{IsFirst}
 use Rattle.templates.specs.ListRules.{parameter_broken, parameters_broken}
 use Rattle.templates.proofs.Firsts.{at_error, first_of_left}
-use Rattle.templates.proofs.params.read_items.Goals as goal
+use Rattle.templates.proofs.params.add_items.Goals as goal
 
 pub returns-in_err-read_parameter-clause-fault : goal.returns-in_err-read_parameter-clause-fault
 returns-in_err-read_parameter-clause-fault c =

@@ -3,7 +3,7 @@ use Rattle.meaning.specs.TemplateTexts.{parameter_of}
 use Rattle.meaning.specs.BundlePlaces.{name_in}
 use Rattle.doc_tree.specs.View.{documents}
 use Rattle.templates.specs.ListRules.{parameters_broken, types_named, types_known}
-use Rattle.templates.proofs.params.read_items.Given as goal
+use Rattle.templates.proofs.params.add_items.Given as goal
 
 abbrev pub invariant-items : goal.invariant-items
 invariant-items l = record {
