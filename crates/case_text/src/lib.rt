@@ -11,8 +11,6 @@ mod lines;
 mod nodes;
 mod put;
 mod targets;
-#[cfg(test)]
-mod tests;
 mod words;
 mod written;
 

@@ -14,8 +14,6 @@ mod names;
 mod parser;
 mod printer;
 mod scan;
-#[cfg(test)]
-mod tests;
 mod token;
 mod word;
 

@@ -25,8 +25,3 @@ pub use read::{DocStop, from_json};
 pub use read_toml::from_toml;
 pub use row::Row;
 pub use word::{NoMemory, Word};
-
-#[cfg(test)]
-mod tests;
-#[cfg(test)]
-mod tests_toml;

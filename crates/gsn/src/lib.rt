@@ -14,8 +14,6 @@ mod marks;
 mod needs;
 mod status;
 mod tables;
-#[cfg(test)]
-mod tests;
 
 pub use case::{CNode, CRel, Case, NodeKind, RelKind};
 pub use status::{Status3, statuses};

@@ -11,7 +11,6 @@ use Rattle.meaning.proofs.EmptyLists.{both_true, all_true}
 -- ---- what a name is
 
 module _ (s : List ℕ) (is_n : is_name s ≡ true) where
-
   pub name_has_word_bytes : list_all is_word_byte s ≡ true
   name_has_word_bytes = (both_true _ _ (both_true _ _ (both_true _ _ is_n).0).0).1
 

@@ -1,7 +1,7 @@
 use Rattle.std.proofs.Common.{◌≡◌, drop}
 use Rattle.doc_tree.specs.View.{documents, documents_of, members, members_of}
 use Rattle.doc_tree.specs.Order.{items_have_no_other, values_have_no_other}
-use Rattle.doc_tree.proofs.tests.+testing.Given as goal
+use Rattle.text_tests.proofs.documents.+testing.Given as goal
 
 abbrev pub invariant-items_have_no_other-items : goal.invariant-items_have_no_other-items
 invariant-items_have_no_other-items l =

@@ -4,7 +4,7 @@ use Rattle.std.proofs.lemmas.List.{take_all}
 use Rattle.std.proofs.lemmas.List.Elements.{All-more}
 use Rattle.gsn.specs.declared.case.CRel.{CRel}
 use Rattle.gsn.specs.declared.case.RelKind.TheVariants as kind
-use Rattle.case_text.proofs.tests.ends_in_range.Goals as goal
+use Rattle.text_tests.proofs.open_cases.ends_in_range.Goals as goal
 
 pub relations-preserved : goal.relations-preserved
 relations-preserved c =

@@ -1,6 +1,6 @@
 use Rattle.std.proofs.Common.{◌<◌, length, take}
 use Rattle.std.specs.Prelude.{All}
-use Rattle.gsn.proofs.tests.ends_in_range.Given as goal
+use Rattle.text_tests.proofs.open_cases.ends_in_range.Given as goal
 
 abbrev pub invariant-relations : goal.invariant-relations
 invariant-relations l =

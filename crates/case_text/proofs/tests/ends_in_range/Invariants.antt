@@ -1,7 +1,0 @@
-use Rattle.std.proofs.Common.{◌<◌, length, take}
-use Rattle.std.specs.Prelude.{All}
-use Rattle.case_text.proofs.tests.ends_in_range.Given as goal
-
-abbrev pub invariant-relations : goal.invariant-relations
-invariant-relations l =
-    All (λ r. (r.from < length l.case.nodes) × (r.to < length l.case.nodes)) (take l.relation-index l.relation-items)
