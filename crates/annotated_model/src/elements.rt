@@ -1,6 +1,6 @@
 //! Elements.
 
-ghost use Rattle.std.specs.Prelude.{◌≡◌, ◌≤◌, ◌<◌, [], ◌++◌, IfOk, IfErr, codes, map, false, true, length};
+ghost use Rattle.std.specs.Prelude.{◌≡◌, ◌≤◌, ◌<◌, [], ◌∷◌, ◌++◌, IfOk, IfErr, OnOk, codes, map, false, true, length};
 ghost use Rattle.meaning.specs.Documents.{list_at};
 ghost use Rattle.meaning.specs.Models.{inherited};
 ghost use Rattle.meaning.specs.BundlePlaces.{Elements, faults_at, name_in, is_among, member_within, may_have};
@@ -138,6 +138,32 @@ fn read_element(
     Ok(value_of(alloc, names, types, when, element)?)
 }
 
+/// Reads the element with this number behind the earlier ones, whose names are given, where it breaks no rule.
+fn read_next(
+    alloc: Global,
+    features: &Names,
+    names: &Names,
+    types: &[TypeDef],
+    number: usize,
+    element: &Doc,
+    given: &mut Names,
+    values: &mut Vec<Element>,
+) -> Result<(), ModelStop>
+    requires number { number ≤ 2048 }
+    requires few { length given.old ≤ 2048 }
+    ensures value { OnOk result (map element_view values.new.items
+        ≡ map element_view values.old.items ++ element_told features.now names.now (map type_view types.now) (document element.now) ∷ []) }
+    ensures name { OnOk result (given.new ≡ given.old ++ name_in (document element.now) ∷ []) }
+    ensures none { OnOk result (element_broken features.now names.now (map type_view types.now) given.old number (document element.now) ≡ []) }
+    ensures within { OnOk result (number < 2048) }
+    ensures fault { IfErr result (IsFirst (faults_at Elements number 0
+        (element_broken features.now names.now (map type_view types.now) given.old number (document element.now)))) }
+{
+    let value = read_element(alloc, features, names, types, given, number, element)?;
+    values.push(value)?;
+    add_new(given, element.text_at("name"))
+}
+
 /// The elements and their names, where these break no rule.
 fn elements_of(
     alloc: Global,
@@ -155,9 +181,16 @@ fn elements_of(
     let mut given = Names::new(alloc);
     let mut values = Vec::new(alloc);
     'elements: for (number, element) in elements.iter().enumerate() {
-        let value = read_element(alloc, features, names, types, &given, number, element)?;
-        values.push(value)?;
-        add_new(&mut given, element.text_at("name"))?;
+        read_next(
+            alloc,
+            features,
+            names,
+            types,
+            number,
+            element,
+            &mut given,
+            &mut values,
+        )?;
     }
     Ok((Row::of(values), given))
 }

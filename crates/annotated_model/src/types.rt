@@ -1,6 +1,6 @@
 //! Types with inheritance.
 
-ghost use Rattle.std.specs.Prelude.{◌≡◌, ◌≤◌, ◌<◌, ◌+◌, [], ◌++◌, IfOk, IfErr, codes, map, false, true, length};
+ghost use Rattle.std.specs.Prelude.{◌≡◌, ◌≤◌, ◌<◌, ◌+◌, [], ◌∷◌, ◌++◌, IfOk, IfErr, OnOk, codes, map, false, true, length};
 ghost use Rattle.std.specs.List.{list_all};
 ghost use Rattle.meaning.specs.Texts as texts;
 ghost use Rattle.meaning.specs.Documents.{list_at, texts_in};
@@ -191,6 +191,28 @@ fn read_below(
     })
 }
 
+/// Reads the type with this number behind the earlier ones, which have these names, where it breaks no rule.
+fn read_next(
+    alloc: Global,
+    number: usize,
+    item: &Doc,
+    names: &mut Names,
+    types: &mut Vec<TypeDef>,
+) -> Result<(), ModelStop>
+    requires number { number ≤ 256 }
+    requires few { length names.old ≤ 256 }
+    ensures value { OnOk result (map type_view types.new.items
+        ≡ map type_view types.old.items ++ meaning.type_of names.old (map type_view types.old.items) (document item.now) ∷ []) }
+    ensures name { OnOk result (names.new ≡ names.old ++ name_in (document item.now) ∷ []) }
+    ensures none { OnOk result (type_broken names.old (map type_view types.old.items) number (document item.now) ≡ []) }
+    ensures within { OnOk result (number < 256) }
+    ensures fault { IfErr result (IsFirst (faults_at Types number 0 (type_broken names.old (map type_view types.old.items) number (document item.now)))) }
+{
+    let value = read_type(alloc, names, types.as_slice(), number, item)?;
+    types.push(value)?;
+    add_new(names, item.text_at("name"))
+}
+
 /// The types and their names, where these break no rule.
 fn types_of(alloc: Global, items: &[Doc]) -> Result<(Vec<TypeDef>, Names), ModelStop>
     ensures values { IfOk result (λ r. map type_view r.0.items ≡ types_told [] [] (documents items.now)) }
@@ -202,9 +224,7 @@ fn types_of(alloc: Global, items: &[Doc]) -> Result<(Vec<TypeDef>, Names), Model
     let mut names = Names::new(alloc);
     let mut types = Vec::new(alloc);
     'types: for (number, item) in items.iter().enumerate() {
-        let value = read_type(alloc, &names, types.as_slice(), number, item)?;
-        types.push(value)?;
-        add_new(&mut names, item.text_at("name"))?;
+        read_next(alloc, number, item, &mut names, &mut types)?;
     }
     Ok((types, names))
 }
