@@ -1,6 +1,6 @@
 //! The line of a product family: a feature tree with constraints.
 
-ghost use Rattle.std.specs.Prelude.{◌≡◌, ◌<◌, ◌≤◌, ◌++◌, ◌∷◌, [], length, map, IfOk, None, All, if◌then◌else◌};
+ghost use Rattle.std.specs.Prelude.{◌≡◌, ◌<◌, ◌≤◌, ◌++◌, ◌∷◌, [], length, map, IfOk, None, OnOk, All, if◌then◌else◌};
 ghost use Rattle.meaning.specs.Texts.{place_of};
 ghost use Rattle.meaning.specs.Features.{feature_names, is_or, is_alternative};
 ghost use Rattle.meaning.specs.Expressions.{name_bound};
@@ -90,17 +90,21 @@ impl Line {
         ensures { IfOk result (λ line. line ≡ record self { features = self.features ++ feature_with name.now placed ∷ [] }) }
     {
         let Line {
-            names,
-            placed: places,
-            ors,
-            alternatives,
+            mut names,
+            placed: mut places,
+            mut ors,
+            mut alternatives,
             constraints,
         } = self;
-        let (names, child) = named(names, name)?;
-        let mut places = places;
-        places.push(placed)?;
-        let ors = joined(alloc, ors, or_parent(placed), child)?;
-        let alternatives = joined(alloc, alternatives, alternative_parent(placed), child)?;
+        grow(
+            alloc,
+            &mut names,
+            &mut places,
+            &mut ors,
+            &mut alternatives,
+            name,
+            placed,
+        )?;
         Ok(Line {
             names,
             placed: places,
@@ -171,15 +175,43 @@ impl Line {
     }
 }
 
-/// The names with one more, and its number.
-fn named(names: Names, name: &str) -> Result<(Names, u16), NoMemory>
-    requires few { length names < 256 }
-    requires new { place_of name.now names ≡ None }
-    ensures { IfOk result (λ r. (r.0 ≡ names ++ name.now ∷ []) × (r.1 ≡ length names)) }
+/// Adds a feature to the fields of a line.
+fn grow(
+    alloc: Global,
+    names: &mut Names,
+    places: &mut Vec<Placed>,
+    ors: &mut Vec<Vec<u16>>,
+    alternatives: &mut Vec<Vec<u16>>,
+    name: &str,
+    placed: Placed,
+) -> Result<(), NoMemory>
+    requires few { length names.old < 256 }
+    requires new { place_of name.now names.old ≡ None }
+    requires ors { IsBelow (length ors.old.items) (if is_or (group_view placed.group) then placed.parent else None) }
+    requires alternatives { IsBelow (length alternatives.old.items) (if is_alternative (group_view placed.group) then placed.parent else None) }
+    ensures names { OnOk result (names.new ≡ names.old ++ name.now ∷ []) }
+    ensures places { OnOk result (places.new.items ≡ places.old.items ++ placed ∷ []) }
+    ensures ors { OnOk result (members_of ors.new.items
+        ≡ with_child (members_of ors.old.items) (if is_or (group_view placed.group) then placed.parent else None) (length names.old)) }
+    ensures alternatives { OnOk result (members_of alternatives.new.items
+        ≡ with_child (members_of alternatives.old.items) (if is_alternative (group_view placed.group) then placed.parent else None) (length names.old)) }
 {
-    let mut names = names;
+    let child = number_of_new(names, name)?;
+    places.push(placed)?;
+    join(alloc, ors, or_parent(placed), child)?;
+    join(alloc, alternatives, alternative_parent(placed), child)?;
+    Ok(())
+}
+
+/// Adds a name, and gives its number.
+fn number_of_new(names: &mut Names, name: &str) -> Result<u16, NoMemory>
+    requires few { length names.old < 256 }
+    requires new { place_of name.now names.old ≡ None }
+    ensures names { IfOk result (λ no. names.new ≡ names.old ++ name.now ∷ []) }
+    ensures number { IfOk result (λ no. no ≡ length names.old) }
+{
     match names.add(name) {
-        Ok(number) => Ok((names, number)),
+        Ok(number) => Ok(number),
         Err(_) => Err(NoMemory),
     }
 }
@@ -204,21 +236,20 @@ fn alternative_parent(placed: Placed) -> Option<u16>
     }
 }
 
-/// The children of each feature, with one more feature, which has none and is itself a child of this parent.
-fn joined(
+/// Adds one more feature to the children of each feature, which has none and is itself a child of this parent.
+fn join(
     alloc: Global,
-    lists: Vec<Vec<u16>>,
+    lists: &mut Vec<Vec<u16>>,
     parent: Option<u16>,
     child: u16,
-) -> Result<Vec<Vec<u16>>, NoMemory>
-    requires { IsBelow (length lists.items) parent }
-    ensures { IfOk result (λ after. members_of after.items ≡ with_child (members_of lists.items) parent child) }
+) -> Result<(), NoMemory>
+    requires { IsBelow (length lists.old.items) parent }
+    ensures { OnOk result (members_of lists.new.items ≡ with_child (members_of lists.old.items) parent child) }
 {
-    let mut lists = lists;
     if let Some(parent) = parent {
         let members = &mut lists[usize::from(parent)];
         members.push(child)?;
     }
     lists.push(Vec::new(alloc))?;
-    Ok(lists)
+    Ok(())
 }
