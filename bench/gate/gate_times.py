@@ -1,7 +1,7 @@
 #!/usr/bin/env python3
-"""What the gate spends: gate_times.py [--anew] [--log FILE], at the top of a checkout, with nothing else running.
+"""What the gate spends: gate_times.py [--anew] [--log FILE] [NAME ..], at the top of a checkout, with nothing else running.
 
-It runs `rt ci`, notes when each line comes (FILE has them, with seconds from the start), and prints a table: for each crate the seconds by the clock
+It runs `rt ci` (of the crates named and those below them, or of all), notes when each line comes (FILE has them, with seconds from the start), and prints a table: for each crate the seconds by the clock
 from the proof of the last crate below it to its own proof and to that of its tests (waiting for a processor or for memory is in them), and the
 number of its edits with the second at which the first of them was tried; then the seconds by the clock and the processor seconds of the whole run, and
 its last line. On a machine that has nothing kept, or with --anew, that is the gate from nothing. `gate_times.py --table FILE` prints the table of an
@@ -60,8 +60,12 @@ def main():
     words = sys.argv[1:]
     if words[:1] == ["--table"]:
         return table(words[1])
-    log = words[words.index("--log") + 1] if "--log" in words else "gate-times.log"
-    status = run([it for it in words if it == "--anew"], log)
+    log = "gate-times.log"
+    if "--log" in words:
+        at = words.index("--log")
+        log = words[at + 1]
+        del words[at : at + 2]
+    status = run(words, log)
     table(log)
     sys.exit(status)
 
