@@ -20,8 +20,6 @@ mod question;
 mod reading;
 mod store;
 mod table;
-#[cfg(test)]
-mod tests;
 
 pub use diagrams::{Cond, Diagrams};
 pub use node_pool::{NoMemory, NodeNo};

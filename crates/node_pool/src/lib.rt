@@ -13,8 +13,6 @@ mod hash;
 mod memory;
 mod node;
 mod pool;
-#[cfg(test)]
-mod tests;
 
 pub use memory::NoMemory;
 pub use node::NodeNo;

@@ -13,8 +13,6 @@ mod from_expression;
 mod mark;
 mod one;
 mod stops;
-#[cfg(test)]
-mod tests;
 mod worlds;
 
 pub use from_expression::condition;

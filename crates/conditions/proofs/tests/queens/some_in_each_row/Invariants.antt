@@ -1,8 +1,0 @@
-use Rattle.worlds.specs.Algebra.{Kept}
-use Rattle.conditions.proofs.tests.queens.some_in_each_row.Given as goal
-
-abbrev pub invariant-rows : goal.invariant-rows
-invariant-rows g l = record {
-  kept : Kept (g.W.Worlds.algebra l.initial.w) (g.W.Worlds.algebra l.w);
-  live : (g.W.Worlds.algebra l.w).live l.board;
-}

@@ -1,6 +1,0 @@
-use Rattle.worlds.proofs.OneWorld.{truth_there}
-use Rattle.worlds.proofs.tests.truth_by_condition.Goals as goal
-
-pub returns : goal.returns
-returns c =
-    truth_there c.args.world.now c.in-Ok.c c.new-one.ensures.only c.in-Ok.ensures.worked.kept c.in-Ok.ensures.made
