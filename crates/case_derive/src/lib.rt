@@ -11,8 +11,6 @@ mod cutting;
 mod nodes;
 mod places;
 mod relations;
-#[cfg(test)]
-mod tests;
 mod texts;
 mod truth;
 mod truths;

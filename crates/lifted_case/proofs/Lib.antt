@@ -19,4 +19,3 @@ pub mod CaseReads
 pub mod CaseReadable
 pub mod TablesAlike
 pub mod CaseDetermined
-pub mod CaseExamples

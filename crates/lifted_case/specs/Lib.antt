@@ -7,4 +7,3 @@ pub mod CaseContents
 pub mod CaseIds
 pub mod CaseMembers
 pub mod CaseMaps
-pub mod CaseExamples

@@ -27,15 +27,11 @@ mod case_ids;
 mod case_members;
 mod case_nodes;
 mod case_systems;
-#[cfg(test)]
-mod case_tests;
 mod case_walk;
 mod faults;
 mod lifted;
 mod members;
 mod read;
-#[cfg(test)]
-mod read_tests;
 mod stop;
 mod tables;
 mod values;
