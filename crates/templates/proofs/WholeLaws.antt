@@ -1,22 +1,24 @@
 -- The templates of a bundle and their faults, from the three passes that read them.
 use Rattle.std.proofs.Common.{◌≡◌, refl, sym, ap, ◌∙◌, subst, ℕ, ◌+◌, ◌<◌, List, [], ◌∷◌, ◌++◌, map, length, take, drop, get_or, append_assoc, Some}
-use Rattle.std.specs.Prelude.{codes, option_map}
-use Rattle.std.specs.List.{enumerate_from, slice_get}
+use Rattle.std.specs.Prelude.{Result, IfOk, codes, option_map}
+use Rattle.std.specs.List.{slice_get}
 use Rattle.std.proofs.lemmas.List.{take_more, drop_more, map-append, length-map}
 use Rattle.std.proofs.lemmas.Option.{slice_get-map}
-use Rattle.meaning.specs.Documents.{Document, list_at, text_at}
+use Rattle.meaning.specs.Documents.{Document, list_at}
 use Rattle.meaning.specs.Models.{Model}
 use Rattle.meaning.specs.QueryTexts.{Scope}
-use Rattle.meaning.specs.Templates.{TemplateNode, Template}
+use Rattle.meaning.specs.Templates.{TemplateNode}
 use Rattle.meaning.specs.TemplateTexts.{templates_of, template_of}
-use Rattle.meaning.specs.BundlePlaces.{Templates, Params, Nodes, BundleFault, requires, may_have, is_list_value, faults_at, faults_of_items, name_in}
+use Rattle.meaning.specs.BundlePlaces.{Templates, Params, Nodes, BundleFault, requires, may_have, is_list_value, faults_at, name_in}
 use Rattle.meaning.specs.ModelRules.{faults_in_item}
-use Rattle.meaning.specs.TemplateRules.{id_in, templates_in, list_rules, template_rules, parameter_rules, faults_in_templates, node_faults, template_faults}
+use Rattle.meaning.specs.TemplateRules.{id_in, templates_in, list_rules, parameter_rules, faults_in_templates, node_faults, template_faults}
+use Rattle.templates.specs.declared.data.Template as code
 use Rattle.templates.specs.declared.fault.TemplateStop.{TemplateStop}
+use Rattle.templates.specs.View.{template_view}
 use Rattle.templates.specs.Faults.{IsFirst}
 use Rattle.doc_tree.specs.declared.doc.Doc.{Doc}
 use Rattle.doc_tree.specs.View.{document, documents}
-use Rattle.templates.specs.ListRules.{list_broken, templates_broken, all_parameters_broken, parameters_in}
+use Rattle.templates.specs.ListRules.{list_broken, all_parameters_broken, parameters_in}
 use Rattle.templates.specs.NodeRules.{Around, nodes_told, nodes_broken, around, template_nodes_broken, all_nodes_broken}
 use Rattle.templates.specs.Wholes.{nodes_in, joined_views}
 use Rattle.templates.proofs.Firsts.{first_in_front, first_behind, first_of_left, left_behind}
@@ -48,18 +50,18 @@ module _ (m : Model) (bundle : Document) where
   at_list stop first =
       subst (λ fs. IsFirst fs stop) faults_are (first_in_front (lists ++ parameters) nodes stop (first_in_front lists parameters stop first))
 
-  pub at_parameters : lists ≡ [] → (stop : TemplateStop) → IsFirst parameters stop → IsFirst (template_faults m bundle) stop
-  at_parameters none stop first =
-      subst (λ fs. IsFirst fs stop) faults_are (first_in_front (lists ++ parameters) nodes stop (first_behind lists parameters stop none first))
-
-  pub at_nodes : lists ≡ [] → parameters ≡ [] → (stop : TemplateStop) → IsFirst nodes stop → IsFirst (template_faults m bundle) stop
-  at_nodes none none_there stop first =
-      subst (λ fs. IsFirst fs stop) faults_are
-      (first_behind (lists ++ parameters) nodes stop (ap (λ fs. fs ++ parameters) none ∙ none_there) first)
+  pub at_both : lists ≡ [] → (stop : TemplateStop) → IsFirst (parameters ++ nodes) stop → IsFirst (template_faults m bundle) stop
+  at_both none stop first =
+      subst (λ fs. IsFirst fs stop) (sym (append_assoc lists parameters nodes) ∙ faults_are) (first_behind lists (parameters ++ nodes) stop none first)
 
   pub no_fault : lists ≡ [] → parameters ≡ [] → nodes ≡ [] → template_faults m bundle ≡ []
   no_fault none none_there none_below =
       sym faults_are ∙ (ap (λ fs. fs ++ parameters ++ nodes) none ∙ (ap (λ fs. fs ++ nodes) none_there ∙ none_below))
+
+-- what is joined of the same nodes is the same
+pub joined_alike : {E : Type 0} (ds : List Document) (result : Result (List code.Template) E) (nss mss : List (List TemplateNode)) → nss ≡ mss
+    → IfOk result (λ row. map template_view row ≡ joined_views ds nss) → IfOk result (λ row. map template_view row ≡ joined_views ds mss)
+joined_alike ds result nss mss same is = subst (λ xs. IfOk result (λ row. map template_view row ≡ joined_views ds xs)) same is
 
 -- ---- the nodes of one template among all
 

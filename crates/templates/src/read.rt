@@ -1,6 +1,6 @@
 //! Reading the templates of a bundle.
 
-ghost use Rattle.std.specs.Prelude.{◌≡◌, ◌+◌, ◌≤◌, ◌<◌, [], Some, true, codes, length, map, take, IfOk, IfErr};
+ghost use Rattle.std.specs.Prelude.{◌≡◌, ◌+◌, ◌++◌, ◌≤◌, ◌<◌, [], Some, true, codes, length, map, take, IfOk, IfErr};
 ghost use Rattle.std.specs.List.{All, slice_get};
 ghost use Rattle.meaning.specs.Documents.{list_at};
 ghost use Rattle.meaning.specs.BundlePlaces.{name_in};
@@ -9,7 +9,7 @@ ghost use Rattle.meaning.specs.TemplateRules.{template_faults};
 ghost use Rattle.doc_tree.specs.View.{document, documents};
 ghost use Rattle.templates.specs.Faults.{IsFirst};
 ghost use Rattle.templates.specs.View.{node_view, template_view};
-ghost use Rattle.templates.specs.ListRules.{parameters_in, types_named, types_known};
+ghost use Rattle.templates.specs.ListRules.{parameters_in, types_named, types_known, all_parameters_broken};
 ghost use Rattle.templates.specs.NodeRules.{around, template_nodes_broken, all_nodes_broken};
 ghost use Rattle.templates.specs.Wholes.{nodes_in, joined_views};
 ghost use Rattle.templates.specs.declared.fault.TemplateStop.TheVariants.{NoMemory};
@@ -166,6 +166,27 @@ fn joined(
     Ok(Row::of(all))
 }
 
+/// The parameters and the nodes of the templates with these names, joined.
+fn read_list(
+    alloc: Global,
+    model: &Model,
+    docs: &[Doc],
+    names: &Names,
+) -> Result<Row<Template>, TemplateStop>
+    requires names { names.now ≡ map name_in (documents docs.now) }
+    requires types { length model.now.types ≤ 65536 }
+    requires within { length docs.now ≤ 256 }
+    ensures templates { IfOk result (λ row. map template_view row
+        ≡ joined_views (documents docs.now) (map (nodes_in model.now names.now) (documents docs.now))) }
+    ensures parameters { IfOk result (λ _. all_parameters_broken model.now 0 (documents docs.now) ≡ []) }
+    ensures nodes { IfOk result (λ _. all_nodes_broken model.now [] 0 0 (documents docs.now) ≡ []) }
+    ensures fault { IfErr result (IsFirst (all_parameters_broken model.now 0 (documents docs.now) ++ all_nodes_broken model.now [] 0 0 (documents docs.now))) }
+{
+    let parameters = read_parameters(alloc, model, docs)?;
+    let nodes = read_all_nodes(alloc, model, docs, names, parameters.as_slice())?;
+    joined(alloc, docs, parameters, nodes)
+}
+
 /// Whether the types have numbers of 16 bits.
 fn has_numbers(model: &Model) -> bool
     ensures { result ≡ true → length model.now.types ≤ 65536 }
@@ -187,9 +208,7 @@ impl Templates {
         }
         let names = read_names(alloc, doc)?;
         let docs = doc.list_at("templates");
-        let parameters = read_parameters(alloc, model, docs)?;
-        let nodes = read_all_nodes(alloc, model, docs, &names, parameters.as_slice())?;
-        let list = joined(alloc, docs, parameters, nodes)?;
+        let list = read_list(alloc, model, docs, &names)?;
         Ok(Templates { list })
     }
 
