@@ -133,9 +133,6 @@ fn first_board<W: Worlds>(w: &mut W) -> Result<(bool, u32), NodeLimit>
 #[test]
 fn the_first_board_of_four_queens_is_found(rt: HostRuntime) -> Result<(), Fail> {
     let mut d = Diagrams::new(rt.alloc(), 1_000, 16)?;
-    assert_eq!(rt;
-        first_board(&mut d),
-        Ok((true, 0b0010_1000_0001_0100))
-    );
+    assert_eq!(rt; first_board(&mut d), Ok((true, 0b0010_1000_0001_0100)));
     Ok(())
 }

@@ -126,10 +126,7 @@ fn check_answers(rt: &impl Abort, world: &[bool])
         answers(&mut one, world),
         Ok(((true, true, true), (false, true, false), (true, false)))
     );
-    assert_eq!(rt;
-        (usize::from(one.count()), one.asked()),
-        (world.len(), 3)
-    );
+    assert_eq!(rt; (usize::from(one.count()), one.asked()), (world.len(), 3));
 }
 
 /// Tests what is picked of none and of all, and the last feature, which is true.

@@ -58,11 +58,7 @@ fn wanted(left: u16, right: u16, last: u32) -> (Tables, Answers) {
 }
 
 /// What the conditions with those truth tables over two features are told to be.
-fn told_of_two<W: Worlds>(
-    w: &mut W,
-    left: u16,
-    right: u16,
-) -> Result<(Tables, Answers), NodeLimit>
+fn told_of_two<W: Worlds>(w: &mut W, left: u16, right: u16) -> Result<(Tables, Answers), NodeLimit>
     requires { (W.algebra w.old).count ≡ 2 }
 {
     let a = of_two(w, 0, left)?;
@@ -71,11 +67,7 @@ fn told_of_two<W: Worlds>(
 }
 
 /// What the conditions with those truth tables over four features are told to be.
-fn told_of_four<W: Worlds>(
-    w: &mut W,
-    left: u16,
-    right: u16,
-) -> Result<(Tables, Answers), NodeLimit>
+fn told_of_four<W: Worlds>(w: &mut W, left: u16, right: u16) -> Result<(Tables, Answers), NodeLimit>
     requires { (W.algebra w.old).count ≡ 4 }
     ensures { Kept (W.algebra w.old) (W.algebra w.new) }
 {

@@ -153,7 +153,13 @@ fn the_first_bad_row_is_found_for_any_number_of_features(rt: HostRuntime) -> Res
 }
 
 /// Adds the document of a row.
-fn add(alloc: Global, items: &mut Vec<Doc>, variable: i64, low: i64, high: i64) -> Result<(), NoMemory> {
+fn add(
+    alloc: Global,
+    items: &mut Vec<Doc>,
+    variable: i64,
+    low: i64,
+    high: i64,
+) -> Result<(), NoMemory> {
     let mut row = Vec::new(alloc);
     row.push(Doc::Number(variable))?;
     row.push(Doc::Number(low))?;

@@ -27,7 +27,13 @@ fn export_three(
 }
 
 /// Tests them as a text.
-fn check(rt: &impl Abort, alloc: Global, d: &Diagrams, pair: (Cond, Cond), wanted: &str) -> Result<(), Fail>
+fn check(
+    rt: &impl Abort,
+    alloc: Global,
+    d: &Diagrams,
+    pair: (Cond, Cond),
+    wanted: &str,
+) -> Result<(), Fail>
     requires a_live { (algebra_of d.now).live pair.0 }
     requires b_live { (algebra_of d.now).live pair.1 }
 {
@@ -51,7 +57,13 @@ fn check_two(rt: &impl Abort, alloc: Global, d: &mut Diagrams) -> Result<(), Fai
 {
     restrict_to_feature(d, 0)?;
     let pair = two(d, 1, 2)?;
-    check(rt, alloc, d, pair, "0 0 1, 1 0 1, 0 0 3, 2 0 1, 0 0 5, 2 4 6 ")
+    check(
+        rt,
+        alloc,
+        d,
+        pair,
+        "0 0 1, 1 0 1, 0 0 3, 2 0 1, 0 0 5, 2 4 6 ",
+    )
 }
 
 #[test]

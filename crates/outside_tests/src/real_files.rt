@@ -1,9 +1,8 @@
 //! Real files and a real stream.
 
 use outside::{FileShelf, ReadStop, StreamSink, read_whole, write_whole};
-use std::fs;
-use std::io;
 use std::test::Fail;
+use std::{fs, io};
 
 #[test]
 fn real_files_are_read_and_copied(rt: HostRuntime) -> Result<(), Fail> {
