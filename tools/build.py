@@ -28,12 +28,14 @@ def main():
     program = list(below)[-1]
     waiting, running, done, began = [it for it in below if it != program], {}, set(), time.monotonic()
     most = lanes()
-    print(f"plcase: proving {len(waiting)} libraries, {most} side by side; from nothing this takes a quarter of an hour or more; see build.log", flush=True)
+    print(f"plcase: proving {len(waiting)} libraries, {most} side by side; from nothing this takes some 20 minutes on four processors; see build.log", flush=True)
     with open(f"{top}/build.log", "w") as log:
         while waiting or running:
-            for name in [it for it in waiting if all(low in done for low in below[it] if low in below)][: most - len(running)]:
+            ready = [it for it in waiting if all(low in done for low in below[it] if low in below)][: most - len(running)]
+            jobs = max(1, most // (len(ready) + len(running) or 1))  # a proof that runs alone gets all
+            for name in ready:
                 waiting.remove(name)
-                running[name] = subprocess.Popen(["rt", "check"], cwd=f"{top}/crates/{name}", stdin=subprocess.DEVNULL, stdout=log, stderr=log)
+                running[name] = subprocess.Popen(["rt", "check", "--jobs", str(jobs)], cwd=f"{top}/crates/{name}", stdin=subprocess.DEVNULL, stdout=log, stderr=log)
             time.sleep(0.2)
             for name in [it for it, proof in running.items() if proof.poll() is not None]:
                 if running.pop(name).returncode:
