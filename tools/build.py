@@ -28,7 +28,7 @@ def main():
     program = list(below)[-1]
     waiting, running, done, began = [it for it in below if it != program], {}, set(), time.monotonic()
     most = lanes()
-    print(f"plcase: proving {len(waiting)} libraries, {most} side by side; from nothing this takes some 20 minutes on four processors; see build.log", flush=True)
+    print(f"plcase: proving {len(waiting)} libraries, {most} side by side; from nothing this takes 20 to 25 minutes on four processors; see build.log", flush=True)
     with open(f"{top}/build.log", "w") as log:
         while waiting or running:
             ready = [it for it in waiting if all(low in done for low in below[it] if low in below)][: most - len(running)]
