@@ -1,5 +1,5 @@
 -- What the top call promises of its status, over what the shelf holds and counts, what the two sinks have, and the diagrams.
-use Rattle.std.specs.Prelude.{◌≡◌, ℕ, ◌<◌, ◌≤◌, ◌+◌, ◌⊎◌, ⊤, List, [], ◌∷◌, ◌++◌, length, take, Bool, true, false, Option, Some, None}
+use Rattle.std.specs.Prelude.{◌≡◌, ℕ, ◌<◌, ◌≤◌, ◌+◌, ◌⊎◌, ⊤, List, [], ◌∷◌, ◌++◌, length, take, Bool, true, false, ◌==◌, if◌then◌else◌, Option, Some, None}
 use Rattle.std.specs.List.{slice_get}
 use Rattle.meaning.specs.Counts.{Rose, RoseBy, NoFewer, appended}
 use Rattle.meaning.specs.Features.{feature_names}
@@ -8,9 +8,9 @@ use Rattle.meaning.specs.CaseFiles.{CaseDocument}
 use Rattle.meaning.specs.CaseReading as reading
 use Rattle.meaning.specs.CaseReading.{CaseFault, CaseReading, read_case}
 use Rattle.meaning.specs.Derivation.{Bundle, bundle_of}
-use Rattle.meaning.specs.Bounds.{IsWork, line_asks, asks_of_build, asks_of_report, asks_of_rules, asks_of_audit, nodes_of_functions}
+use Rattle.meaning.specs.Bounds.{IsWork, line_asks, asks_of_build, asks_of_report, asks_of_rules, asks_of_audit, nodes_of_functions, always_enough}
 use Rattle.meaning.specs.Words.{Task, Build, TestRules, Audit, Report, Workload, Invocation, File, files_of, uses_diagrams}
-use Rattle.meaning.specs.Statuses.{Status, Done, BadWords, NodeLimit, TooLong, ReadFault, WriteFault, NoMemory, RulesBroken, status_line}
+use Rattle.meaning.specs.Statuses.{Status, Done, BadWords, BadBundle, NodeLimit, BigCase, AuditNo, TooLong, ReadFault, WriteFault, NoMemory, RulesBroken, status_line}
 use Rattle.meaning.specs.Answers.{Answer, Prints, Refuses, Stage, BundleReading, Good, bundle_in, IsAnswer, generated_bundle}
 
 -- ---- what a sink was told
@@ -125,25 +125,6 @@ pub record IsRefused (stage : Stage) (words : List (List ℕ)) (before : Outside
 
 -- ---- the node limit
 
--- what the diagrams are opened for: the number of features, and how much may be asked of them
-pub record Asks : Type 0 where
-  pub features : ℕ
-  pub asks : ℕ
-
--- building a bundle document may ask so much
-pub record BuildAsks (d : Document) (b : Bundle) (a : Asks) : Type 0 where
-  pub features : a.features ≡ length (feature_names b.line)
-  pub work : ℕ
-  pub of_bundle : IsWork b work
-  pub is : a.asks ≡ asks_of_build work (line_asks (feature_names b.line) d)
-
-abbrev pub CaseAsks : (CaseDocument → ℕ) → CaseDocument → Asks → Type 0
-CaseAsks count k a = (a.features ≡ length k.features) × (a.asks ≡ count k)
-
-pub record AuditAsks (d : Document) (b : Bundle) (k : CaseDocument) (a : Asks) : Type 0 where
-  pub features : a.features ≡ length (feature_names b.line)
-  pub is : a.asks ≡ asks_of_audit b.model k (line_asks (feature_names b.line) d)
-
 abbrev pub OfBundle : BundleReading → (Document → Bundle → Type 0) → Type 0
 OfBundle (Good d b) next = next d b
 OfBundle _ next = ⊥
@@ -156,47 +137,91 @@ abbrev pub OfDocument : Option Document → (Document → Bundle → Type 0) →
 OfDocument None next = ⊥
 OfDocument (Some d) next = next d (bundle_of d)
 
--- the files have no fault that comes before the diagrams are opened, and a task over them may ask so much
-abbrev pub MayAsk : Stage → Task → List (List ℕ) → Asks → Type 0
+-- the files have no fault that comes before the diagrams are opened, and these are opened for so many features: of the line, or of the case
+abbrev pub OpensFor : Stage → Task → List (List ℕ) → (features : ℕ) → Type 0
+OpensFor s (Build name) (bytes ∷ []) n = OfBundle (bundle_in s name bytes) (λ d b. n ≡ length (feature_names b.line))
+OpensFor s (TestRules case) (bytes ∷ []) n = OfCase (s.case_faults bytes) (read_case bytes) (λ k. n ≡ length k.features)
+OpensFor s (Report case) (bytes ∷ []) n = OfCase (s.case_faults bytes) (read_case bytes) (λ k. n ≡ length k.features)
+OpensFor s (Audit bundle case) (bytes ∷ others ∷ []) n =
+    OfBundle (bundle_in s bundle bytes) (λ d b. OfCase (s.case_faults others) (read_case others) (λ k. n ≡ length (feature_names b.line)))
+OpensFor s (Workload number size) [] n = OfDocument (generated_bundle number size) (λ d b. n ≡ length (feature_names b.line))
+OpensFor s t _ n = ⊥
+
+-- building a bundle document may ask so much
+pub record BuildAsks (d : Document) (b : Bundle) (asks : ℕ) : Type 0 where
+  pub work : ℕ
+  pub of_bundle : IsWork b work
+  pub is : asks ≡ asks_of_build work (line_asks (feature_names b.line) d)
+
+-- a task over files without a fault may ask so much of the diagrams
+abbrev pub MayAsk : Stage → Task → List (List ℕ) → (asks : ℕ) → Type 0
 MayAsk s (Build name) (bytes ∷ []) a = OfBundle (bundle_in s name bytes) (λ d b. BuildAsks d b a)
-MayAsk s (TestRules case) (bytes ∷ []) a = OfCase (s.case_faults bytes) (read_case bytes) (λ k. CaseAsks asks_of_rules k a)
-MayAsk s (Report case) (bytes ∷ []) a = OfCase (s.case_faults bytes) (read_case bytes) (λ k. CaseAsks asks_of_report k a)
+MayAsk s (TestRules case) (bytes ∷ []) a = OfCase (s.case_faults bytes) (read_case bytes) (λ k. a ≡ asks_of_rules k)
+MayAsk s (Report case) (bytes ∷ []) a = OfCase (s.case_faults bytes) (read_case bytes) (λ k. a ≡ asks_of_report k)
 MayAsk s (Audit bundle case) (bytes ∷ others ∷ []) a =
-    OfBundle (bundle_in s bundle bytes) (λ d b. OfCase (s.case_faults others) (read_case others) (λ k. AuditAsks d b k a))
+    OfBundle (bundle_in s bundle bytes) (λ d b. OfCase (s.case_faults others) (read_case others)
+        (λ k. a ≡ asks_of_audit b.model k (line_asks (feature_names b.line) d)))
 MayAsk s (Workload number size) [] a = OfDocument (generated_bundle number size) (λ d b. BuildAsks d b a)
 MayAsk s t _ a = ⊥
 
--- a limit below what is enough for the task was reached, in the diagrams that were opened with it
-pub record LimitReached (stage : Stage) (words : List (List ℕ)) (before : Outside) (old new : Diagrams) (used : ℕ) : Type 0 where
+-- diagrams that were opened with the limit of the words, for files with these bytes. Where the shelf tells a file these are its bytes, and
+-- they have no fault that comes before: so a told file with a fault opens nothing, whatever is told of the rest
+pub record OpenedFor (stage : Stage) (words : List (List ℕ)) (before : Outside) (new : Diagrams) : Type 0 where
   pub invocation : Invocation
   pub reads : stage.reads words ≡ Some invocation
-  pub within : AllWithin before (files_of invocation.task)
-  pub with_diagrams : uses_diagrams invocation.task ≡ true
-  pub used_all : used ≡ invocation.node_limit
+  pub files : List (List ℕ)
+  pub agree : AgreeWith before (files_of invocation.task) files
+  pub opens : OpensFor stage invocation.task files new.features
+  pub limit : new.limit ≡ invocation.node_limit
+
+-- a call was refused at the limit of the words, in diagrams that were opened with it for files that keep their rules. Over at most 4 features
+-- that limit is less than is always enough
+pub record LimitMet (stage : Stage) (words : List (List ℕ)) (before : Outside) (old new : Diagrams) (used : ℕ) : Type 0 where
+  pub opened : OpenedFor stage words before new
+  pub is_open : new.is_open ≡ true
+  pub used_all : used ≡ new.limit
   pub cause : Rose old.refused new.refused
-  pub opened : new.is_open ≡ true
-  pub with_limit : new.limit ≡ invocation.node_limit
-  pub below_enough : (files : List (List ℕ)) → ToldBy before (files_of invocation.task) files
-      → (a : Asks) × MayAsk stage invocation.task files a
-      × ((new.features ≡ a.features) × (invocation.node_limit < nodes_of_functions a.features a.asks))
+  pub few : new.features ≤ 4 → new.limit < always_enough
 
--- how much was asked of the diagrams, at whatever status, where the files have no fault but that no world is valid
+-- the same where also the limit is below what is enough for the task
+pub record LimitReached (stage : Stage) (words : List (List ℕ)) (before : Outside) (old new : Diagrams) (used : ℕ) : Type 0 where
+  pub met : LimitMet stage words before old new used
+  pub asks : ℕ
+  pub may_ask : MayAsk stage met.opened.invocation.task met.opened.files asks
+  pub below_enough : new.limit < nodes_of_functions new.features asks
+
+-- how much was asked of open diagrams, at whatever status
+pub record AskedFew (stage : Stage) (words : List (List ℕ)) (before : Outside) (new : Diagrams) : Type 0 where
+  pub opened : OpenedFor stage words before new
+  pub asks : ℕ
+  pub may_ask : MayAsk stage opened.invocation.task opened.files asks
+  pub few : new.asked + new.taken ≤ asks
+
 abbrev pub FewAsked : Stage → List (List ℕ) → Outside → Diagrams → Type 0
-FewAsked stage words before new =
-    (invocation : Invocation) (files : List (List ℕ)) (a : Asks) → stage.reads words ≡ Some invocation
-    → ToldBy before (files_of invocation.task) files → MayAsk stage invocation.task files a → new.asked + new.taken ≤ a.asks
+FewAsked stage words before new = new.is_open ≡ true → AskedFew stage words before new
 
--- tasks without diagrams leave them shut
-abbrev pub LeftShut : Stage → List (List ℕ) → Diagrams → Type 0
-LeftShut stage words new =
-    (invocation : Invocation) → stage.reads words ≡ Some invocation → uses_diagrams invocation.task ≡ false → new.is_open ≡ false
+-- whether the diagrams of a task that uses them are open at its end: they are opened once its files have kept their rules, but that no world
+-- may be valid, which is found in them. Want of memory may come before and after
+abbrev pub open_under : Status → Option Bool
+open_under Done = Some true
+open_under (BadBundle f) = Some (f.rule == 30)
+open_under (NodeLimit used) = Some true
+open_under (BigCase entries) = Some true
+open_under (AuditNo p) = Some true
+open_under (RulesBroken count) = Some true
+open_under WriteFault = Some true
+open_under NoMemory = None
+open_under s = Some false
 
--- open diagrams have the limit of the words, and the features of the line or the case
-abbrev pub OpenedAs : Stage → List (List ℕ) → Outside → Diagrams → Type 0
-OpenedAs stage words before new =
-    (invocation : Invocation) (files : List (List ℕ)) (a : Asks) → stage.reads words ≡ Some invocation
-    → ToldBy before (files_of invocation.task) files → MayAsk stage invocation.task files a → new.is_open ≡ true
-    → (new.limit ≡ invocation.node_limit) × (new.features ≡ a.features)
+-- the same by the words: without a task, or with one that doesn't use them, they are shut at every status
+abbrev pub open_after : Option Invocation → Status → Option Bool
+open_after None s = Some false
+open_after (Some i) s = if uses_diagrams i.task then open_under s else Some false
+
+-- what the call leaves of the diagrams: whether they are open, and for what
+pub record Leaves (stage : Stage) (words : List (List ℕ)) (before : Outside) (new : Diagrams) (status : Status) : Type 0 where
+  pub as_told : (b : Bool) → open_after (stage.reads words) status ≡ Some b → new.is_open ≡ b
+  pub opened : new.is_open ≡ true → OpenedFor stage words before new
 
 -- ---- the whole
 
@@ -241,8 +266,7 @@ PlainPromise stage words before after status = Promise stage words before after 
 pub record PromiseWithDiagrams (stage : Stage) (words : List (List ℕ)) (before after : Outside) (old new : Diagrams) (status : Status) : Type 0 where
   pub promise : Promise stage words before after (LimitReached stage words before old new) status
   pub asked : FewAsked stage words before new
-  pub opened : OpenedAs stage words before new
-  pub shut : LeftShut stage words new
+  pub leaves : Leaves stage words before new status
 
 -- ---- what follows: with every file told and within its limit, and no count that rises, only want of memory stands beside the answer
 
