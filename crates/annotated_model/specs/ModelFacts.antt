@@ -34,14 +34,22 @@ pub record SystemFits (m : Model) (s : System) : Type 0 where
   pub initial : list_any (λ x. x.initial) s.states ≡ true
   pub labels : All (λ x. All (λ l. l < length m.labels) x.labels) s.states
   pub transitions : All (TransitionFits s) s.transitions
+  pub few_states : length s.states ≤ 4096
+  pub few_transitions : length s.transitions ≤ 16384
 
--- the parent of a type is an earlier one, and every number is in range
+-- the parent of a type is an earlier one, every number is in range, and no list is past its limit
 pub record KeepsRules (m : Model) : Type 0 where
   pub parents : ParentsAreEarlier m.types
   pub kinds : All (KindFits m) m.kinds
   pub elements : All (ElementFits m) m.elements
   pub links : All (LinkFits m) m.links
   pub systems : All (SystemFits m) m.systems
+  pub few_types : length m.types ≤ 256
+  pub few_kinds : length m.kinds ≤ 256
+  pub few_labels : length m.labels ≤ 256
+  pub few_elements : length m.elements ≤ 2048
+  pub few_links : length m.links ≤ 16384
+  pub few_systems : length m.systems ≤ 256
 
 -- in every product each system is proper, and each link joins elements
 pub record HasProperProducts (m : Model) : Type 0 where

@@ -25,3 +25,9 @@ pub record NoFewer (old new : List ℕ → ℕ) : Type 0 where
 abbrev pub appended : Option (List ℕ) → List ℕ → Option (List ℕ)
 appended None more = None
 appended (Some bytes) more = Some (bytes ++ more)
+
+-- ---- numbers that are told
+
+-- a place, a row, an item or a step as it is told: past the greatest number of 32 bits it is that number
+abbrev pub capped : ℕ → ℕ
+capped n = min n 4294967295
