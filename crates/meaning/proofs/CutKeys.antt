@@ -1,5 +1,5 @@
 -- The keys of a cut are keys of the case.
-use Rattle.std.proofs.Common.{ℕ, List, [], ◌∷◌, map, Bool, refl, arith}
+use Rattle.std.proofs.Common.{List, [], ◌∷◌, map, Bool, refl, arith}
 use Rattle.std.specs.Prelude.{filter, Contains}
 use Rattle.meaning.specs.CaseFiles.{CaseNode, CaseDocument, holds, cut, node_at_world}
 use Rattle.meaning.proofs.CutTrees.{Each}

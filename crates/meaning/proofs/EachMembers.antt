@@ -1,5 +1,5 @@
 -- Facts of each member of a list: of a part of the list, of a mapped one, and of the member at a place.
-use Rattle.std.proofs.Common.{◌≡◌, ℕ, zero, suc, ◌<◌, List, [], ◌∷◌, map, length, Bool, true, false, refl, subst, arith}
+use Rattle.std.proofs.Common.{ℕ, zero, suc, ◌<◌, List, [], ◌∷◌, map, length, Bool, true, false, refl, subst, arith}
 use Rattle.std.specs.Prelude.{cond, filter, Contains, slice_index_or}
 use Rattle.meaning.proofs.CutTrees.{Each}
 
