@@ -30,3 +30,8 @@ pub mod LineNames
 pub mod CaseReadsBack
 pub mod ProperNames
 pub mod NamePlaces
+pub mod TableValues
+pub mod ReducedTables
+pub mod CanonicalIdentifiers
+pub mod PairedLists
+pub mod WalkedTables
