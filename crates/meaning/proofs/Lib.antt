@@ -35,3 +35,14 @@ pub mod ReducedTables
 pub mod CanonicalIdentifiers
 pub mod PairedLists
 pub mod WalkedTables
+pub mod Lists
+pub mod Members
+pub mod Pairs
+pub mod EqualityTests
+pub mod KeySteps
+pub mod KeyTexts
+pub mod AscendingTuples
+pub mod TupleElements
+pub mod LowerNodes
+pub mod KeysDiffer
+pub mod ReadCases
