@@ -62,7 +62,7 @@ ascend_from_pairs [] h = tt
 ascend_from_pairs (t ∷ []) h = tt
 ascend_from_pairs (t ∷ u ∷ ts) h = (h.0.0, ascend_from_pairs (u ∷ ts) h.1)
 
-never_before_itself : (t : List ℕ) → is_before t t → ⊥
+pub never_before_itself : (t : List ℕ) → is_before t t → ⊥
 never_before_itself [] h = h
 never_before_itself (e ∷ es) h = go h (λ i. never_before_itself es i)
   where
@@ -76,7 +76,7 @@ before_differ t u h e = never_before_itself u (go e)
     go : t ≡ u → is_before u u
     go f = rw f at h
 
-before_both : (t u v : List ℕ) → is_before t u → is_before u v → is_before t v
+pub before_both : (t u v : List ℕ) → is_before t u → is_before u v → is_before t v
 before_both [] [] v h g = elim h [ ]
 before_both [] (e ∷ u) [] h g = elim g [ ]
 before_both [] (e ∷ u) (f ∷ v) h g = tt

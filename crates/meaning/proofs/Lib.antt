@@ -46,3 +46,5 @@ pub mod TupleElements
 pub mod LowerNodes
 pub mod KeysDiffer
 pub mod ReadCases
+pub mod LikeDocuments
+pub mod OnceLists
