@@ -48,3 +48,5 @@ pub mod KeysDiffer
 pub mod ReadCases
 pub mod LikeDocuments
 pub mod OnceLists
+pub mod InstanceNodes
+pub mod UpperKeys
