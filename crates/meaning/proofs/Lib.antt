@@ -50,3 +50,4 @@ pub mod LikeDocuments
 pub mod OnceLists
 pub mod InstanceNodes
 pub mod UpperKeys
+pub mod TidySights
