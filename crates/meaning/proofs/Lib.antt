@@ -51,3 +51,4 @@ pub mod OnceLists
 pub mod InstanceNodes
 pub mod UpperKeys
 pub mod TidySights
+pub mod TwinNodes
