@@ -52,3 +52,4 @@ pub mod InstanceNodes
 pub mod UpperKeys
 pub mod TidySights
 pub mod TwinNodes
+pub mod ToldChecks

@@ -4,7 +4,7 @@ use Rattle.std.specs.Prelude.{cond, filter}
 use Rattle.meaning.specs.Tidy.{Among, none, taken, passed, is_before, Ascend}
 use Rattle.meaning.proofs.CutTrees.{Each}
 use Rattle.meaning.proofs.EachMembers.{each_by}
-use Rattle.meaning.proofs.Members.{Member, Pairwise, member_each}
+use Rattle.meaning.proofs.Members.{Member, Pairwise, member_each, member_mapped}
 use Rattle.meaning.proofs.AscendingTuples.{never_before_itself, before_both, pairs_from_ascend}
 use Rattle.meaning.proofs.PairedLists.{Paired}
 
@@ -54,6 +54,27 @@ module _ {A : Type 0} where
       go (inl (r, e, i)) (inr j) same = elim (not_member z zs d.0 (among_member j z (h z (subst (Member z) (sym e) (inl refl))))) [ ]
       go (inr i) (inl (s, f, j)) same = elim (not_member z zs d.0 (among_member i z (g z (subst (Member z) (sym f) (inl refl))))) [ ]
       go (inr i) (inr j) same = same xs ys i j h g
+
+  among_each : (P : A → Type 0) {xs zs : List A} → Among xs zs → Each P zs → Each P xs
+  among_each P none h = tt
+  among_each P (taken a) h = (h.0, among_each P a h.1)
+  among_each P (passed a) h = among_each P a h.1
+
+  -- what differs among all differs among some
+  pub among_pairs : (R : A → A → Type 0) {xs zs : List A} → Among xs zs → Pairwise R zs → Pairwise R xs
+  among_pairs R none h = tt
+  among_pairs R (taken {x = x} a) h = (among_each (R x) a h.0, among_pairs R a h.1)
+  among_pairs R (passed a) h = among_pairs R a h.1
+
+-- members with one name are one, where the names differ
+pub one_of_name : {A K : Type 0} (name : A → K) (xs : List A) → Pairwise (λ s t. s ≢ t) (map name xs) → (x y : A) → Member x xs → Member y xs → name x ≡ name y → x ≡ y
+one_of_name name [] d x y m n e = elim m [ ]
+one_of_name name (z ∷ xs) d x y (inl f) (inl g) e = sym f ∙ g
+one_of_name name (z ∷ xs) d x y (inl f) (inr n) e =
+    elim (not_member (name z) (map name xs) d.0 (subst (λ k. Member k (map name xs)) (sym (ap name f ∙ e)) (member_mapped name y xs n))) [ ]
+one_of_name name (z ∷ xs) d x y (inr m) (inl g) e =
+    elim (not_member (name z) (map name xs) d.0 (subst (λ k. Member k (map name xs)) (e ∙ sym (ap name g)) (member_mapped name x xs m))) [ ]
+one_of_name name (z ∷ xs) d x y (inr m) (inr n) e = one_of_name name xs d.1 x y m n e
 
 -- ---- tuples that ascend
 
