@@ -53,3 +53,4 @@ pub mod UpperKeys
 pub mod TidySights
 pub mod TwinNodes
 pub mod ToldChecks
+pub mod TwinSystems

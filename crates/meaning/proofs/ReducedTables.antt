@@ -74,7 +74,7 @@ pub record IsRow (rows : List Row) (id : ℕ) : Type 0 where
   pub is : id ≡ suc (suc place)
   pub stands : slice_get rows place ≡ Some row
 
-slice_there : {A : Type 0} (xs : List A) (i : ℕ) → i < length xs → (x : A) × (slice_get xs i ≡ Some x)
+pub slice_there : {A : Type 0} (xs : List A) (i : ℕ) → i < length xs → (x : A) × (slice_get xs i ≡ Some x)
 slice_there [] i l = absurd (omega (arith, l))
 slice_there (x ∷ xs) zero l = (x, refl)
 slice_there (x ∷ xs) (suc i) l = slice_there xs i (omega (arith, l))
