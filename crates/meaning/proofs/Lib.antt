@@ -54,3 +54,4 @@ pub mod TidySights
 pub mod TwinNodes
 pub mod ToldChecks
 pub mod TwinSystems
+pub mod TwinRelations
