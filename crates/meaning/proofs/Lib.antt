@@ -55,3 +55,5 @@ pub mod TwinNodes
 pub mod ToldChecks
 pub mod TwinSystems
 pub mod TwinRelations
+pub mod TwinDocuments
+pub mod OneDocument
