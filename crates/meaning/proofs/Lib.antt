@@ -57,3 +57,7 @@ pub mod TwinSystems
 pub mod TwinRelations
 pub mod TwinDocuments
 pub mod OneDocument
+pub mod KeptRules
+pub mod NewPairs
+pub mod BundleNames
+pub mod SameBuilds

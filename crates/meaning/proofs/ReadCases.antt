@@ -19,11 +19,11 @@ use Rattle.meaning.proofs.ReducedTables.{IsReduced, Fits, IsWithin}
 
 -- ---- lists without a fault
 
-nothing_left : {A : Type 0} (xs ys : List A) → xs ++ ys ≡ [] → (xs ≡ []) × (ys ≡ [])
+pub nothing_left : {A : Type 0} (xs ys : List A) → xs ++ ys ≡ [] → (xs ≡ []) × (ys ≡ [])
 nothing_left [] ys e = (refl, e)
 nothing_left (x ∷ xs) ys e = cc
 
-no_first : {A : Type 0} (xs : List A) → first_of_list xs ≡ None → xs ≡ []
+pub no_first : {A : Type 0} (xs : List A) → first_of_list xs ≡ None → xs ≡ []
 no_first [] e = refl
 no_first (x ∷ xs) e = cc
 
@@ -40,7 +40,7 @@ none_fails {A = A} test (x ∷ xs) e = go (test x) refl e (none_fails test xs)
     go true f g later = (f, later g)
     go false f g later = elim (no_item g) [ ]
 
-each_numbered : {A : Type 0} (P : A → Type 0) (k : ℕ) (xs : List A) → Each (λ x. P x.1) (enumerate_from k xs) → Each P xs
+pub each_numbered : {A : Type 0} (P : A → Type 0) (k : ℕ) (xs : List A) → Each (λ x. P x.1) (enumerate_from k xs) → Each P xs
 each_numbered P k [] h = tt
 each_numbered P k (x ∷ xs) h = (h.0, each_numbered P (k + 1) xs h.1)
 

@@ -43,3 +43,4 @@ pub mod Statuses
 pub mod Answers
 pub mod Stages
 pub mod TopCall
+pub mod SameBuilds
