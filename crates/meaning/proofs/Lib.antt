@@ -31,3 +31,4 @@ pub mod CaseReadsBack
 pub mod ProperNames
 pub mod NamePlaces
 pub mod QueryTokens
+pub mod QueryPasses
