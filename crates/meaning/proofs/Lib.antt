@@ -32,3 +32,4 @@ pub mod ProperNames
 pub mod NamePlaces
 pub mod QueryTokens
 pub mod QueryPasses
+pub mod PathPhrases
