@@ -33,3 +33,4 @@ pub mod NamePlaces
 pub mod QueryTokens
 pub mod QueryPasses
 pub mod PathPhrases
+pub mod QueryPhrases
