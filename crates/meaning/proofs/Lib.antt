@@ -34,3 +34,4 @@ pub mod QueryTokens
 pub mod QueryPasses
 pub mod PathPhrases
 pub mod QueryPhrases
+pub mod PathPasses
