@@ -35,3 +35,4 @@ pub mod QueryPasses
 pub mod PathPhrases
 pub mod QueryPhrases
 pub mod PathPasses
+pub mod ConstraintPasses
