@@ -36,3 +36,4 @@ pub mod PathPhrases
 pub mod QueryPhrases
 pub mod PathPasses
 pub mod ConstraintPasses
+pub mod VariablePasses
