@@ -37,3 +37,4 @@ pub mod QueryPhrases
 pub mod PathPasses
 pub mod ConstraintPasses
 pub mod VariablePasses
+pub mod QueryGrammarLaw

@@ -62,6 +62,11 @@ fresh_each scope vs e = each_new vs scope (variable_names scope) (λ s. refl) e
 pub each_fresh : (scope vs : Scope) → AllNew scope vs → are_new (variable_names scope) (variable_names vs) ≡ true
 each_fresh scope vs h = all_new vs scope (variable_names scope) (λ s. refl) h
 
+-- a list that goes on with no comma
+abbrev pub ends_variables : List Token → Bool
+ends_variables (comma ∷ ts) = false
+ends_variables ts = true
+
 -- ---- one variable
 
 module _ (m : Model) where
@@ -183,10 +188,6 @@ module _ (m : Model) where
         few = leb-false 3 new (sym (ap (is_variable_too_many (reading scope new 0 (start first))) name_is) ∙ f.few_variables);
         goes = r.goes;
       }
-
-  abbrev pub ends_variables : List Token → Bool
-  ends_variables (comma ∷ ts) = false
-  ends_variables ts = true
 
   -- variables, and the tokens after them
   pub record Variables (scope : Scope) (new : ℕ) (ts : List Token) : Type 0 where
