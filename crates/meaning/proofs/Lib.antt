@@ -38,3 +38,4 @@ pub mod PathPasses
 pub mod ConstraintPasses
 pub mod VariablePasses
 pub mod QueryGrammarLaw
+pub mod HolesRead

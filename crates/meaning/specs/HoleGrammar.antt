@@ -33,7 +33,7 @@ pub data IsHole (m : Model) (scope : Scope) (counts : Bool) : List ℕ → TextP
   number_of_answers : counts ≡ true → IsHole m scope counts (codes "#") Count
   name_of : {x : List ℕ} {v : ℕ} → IsVariableOf scope x v → IsHole m scope counts (x ++ codes ".name") (NameOf v)
   attribute_of : {x a : List ℕ} {v n : ℕ} → IsVariableOf scope x v → IsValueOf m scope v a n
-      → IsHole m scope counts (x ++ codes "." ++ a) (AttributeOf v n)
+      → IsHole m scope counts (x ++ (codes "." ++ a)) (AttributeOf v n)
 
 mutual
   -- holes with words before, between and behind them; words are as long as possible and not empty
@@ -46,7 +46,7 @@ mutual
   pub data IsRest (m : Model) (scope : Scope) (counts : Bool) : List ℕ → List TextPart → Type 0 where
     the_end : IsRest m scope counts [] []
     a_hole : {h s : List ℕ} {p : TextPart} {ps : List TextPart}
-        → IsHole m scope counts h p → IsHoles m scope counts s ps → IsRest m scope counts (codes "{" ++ h ++ codes "}" ++ s) (p ∷ ps)
+        → IsHole m scope counts h p → IsHoles m scope counts s ps → IsRest m scope counts (codes "{" ++ (h ++ (codes "}" ++ s))) (p ∷ ps)
 
 -- the part is a hole
 abbrev pub is_hole : TextPart → Bool
