@@ -37,6 +37,9 @@ word_marks (c ∷ cs) e =
     let d = both_true (is_word_byte c) (list_all is_word_byte cs) e in
     ap (λ k. k ∷ map mark_of cs) (plain_mark c (word_byte_plain c d.0).0) ∙ ap (λ ks. byte c ∷ ks) (word_marks cs d.1)
 
+abbrev pub holes_in : List TextPart → ℕ
+holes_in ps = length (filter is_hole ps)
+
 -- ---- a word, a dot and more
 
 cut_word : (x a : List ℕ) → list_all is_word_byte x ≡ true → cut_at_dot (x ++ 46 ∷ a) ≡ (x, a)
@@ -181,9 +184,6 @@ module _ (m : Model) (scope : Scope) (counts : Bool) where
 
   -- ---- a whole text
 
-  abbrev pub holes_in : List TextPart → ℕ
-  holes_in ps = length (filter is_hole ps)
-
   -- the text is read as these parts, and has no fault while its holes aren't too many
   record Read (s : List ℕ) (ps : List TextPart) : Type 0 where
     segments : List Segment
@@ -191,7 +191,7 @@ module _ (m : Model) (scope : Scope) (counts : Bool) where
     parts : map (part_of m scope) segments ≡ ps
     faultless : (holes : ℕ) → holes + holes_in ps ≤ 8 → Faultless holes s
 
-  is_a_hole : (h : List ℕ) (p : TextPart) → IsHole m scope counts h p → is_hole p ≡ true
+  pub is_a_hole : (h : List ℕ) (p : TextPart) → IsHole m scope counts h p → is_hole p ≡ true
   is_a_hole h p (number_of_answers allowed) = refl
   is_a_hole h p (name_of x) = refl
   is_a_hole h p (attribute_of x a) = refl

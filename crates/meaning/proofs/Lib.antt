@@ -39,3 +39,4 @@ pub mod ConstraintPasses
 pub mod VariablePasses
 pub mod QueryGrammarLaw
 pub mod HolesRead
+pub mod HolesFound
