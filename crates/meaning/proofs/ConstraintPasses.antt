@@ -1,16 +1,16 @@
 -- The tokens of constraints go on from the first to the end, and tokens that go on so are constraints.
-use Rattle.std.proofs.Common.{◌≡◌, ◌∙◌, sym, ap, subst, refl, ℕ, zero, suc, ◌+◌, ◌≤◌, List, [], ◌∷◌, ◌++◌, length, Bool, true, false, not, ◌&&◌, ◌||◌, append_assoc, length-append, Option, Some, None, arith}
+use Rattle.std.proofs.Common.{◌≡◌, ◌∙◌, sym, ap, subst, refl, ℕ, zero, suc, ◌+◌, ◌≤◌, List, [], ◌∷◌, ◌++◌, length, Bool, true, false, not, ◌&&◌, ◌||◌, append_assoc, length-append, arith}
 use Rattle.std.specs.Prelude.{codes, bytes_eq, if◌then◌else◌, is_some, nat_le, unwrap_or}
-use Rattle.std.proofs.lemmas.Bool.{true≢false, lt-leb, leb-false}
+use Rattle.std.proofs.lemmas.Bool.{true≢false, lt-leb, leb-false, and_left, or_right}
 use Rattle.std.proofs.lemmas.List.{append-nil}
 use Rattle.std.proofs.lemmas.Slice.Eq.{bytes_eq-Decides}
-use Rattle.meaning.specs.Texts.{place_of, is_name}
+use Rattle.meaning.specs.Texts.{is_name}
 use Rattle.meaning.specs.Models.{Model}
 use Rattle.meaning.specs.Queries.{Path, Constraint, Walks, Attribute}
-use Rattle.meaning.specs.QueryTexts.{Token, word, quoted, colon, comma, open_bracket, close_bracket, open_paren, close_paren, dot, equal_sign, exclamation, bar, slash, plus, caret, blank, strange, Scope, variable_number, attribute_number, kind_names}
-use Rattle.meaning.specs.QueryFaults.{Next, a_query, a_new_variable, the_colon, the_type, after_type, a_constraint, a_negated_walk, after_variable, an_attribute, a_comparison, a_quoted_text, a_step, after_step, the_other_end, after_constraint, Progress, going_on, number_of, progress_after, with_constraint, is_stray, begins_constraint_too_many}
+use Rattle.meaning.specs.QueryTexts.{Token, word, quoted, comma, open_bracket, close_bracket, dot, equal_sign, exclamation, Scope, variable_number, attribute_number, kind_names}
+use Rattle.meaning.specs.QueryFaults.{Next, a_constraint, a_negated_walk, after_variable, an_attribute, a_comparison, a_quoted_text, a_step, after_step, the_other_end, after_constraint, Progress, number_of, is_stray}
 use Rattle.meaning.specs.QueryGrammar.{IsNameOf, IsAttributeOf, variable_names, IsPath, IsConstraint, a_walk, no_walk, equals, differs, IsConstraints, of_constraint, and_constraints}
-use Rattle.meaning.proofs.QueryPasses.{colon_next, named, Fine, Passes}
+use Rattle.meaning.proofs.QueryPasses.{Fine, Passes}
 use Rattle.meaning.proofs.PathPasses.{fine, some_there, path_passes, path_found}
 
 -- ---- words
@@ -27,14 +27,6 @@ not_not w is = no_reserved w (codes "not") refl is
 
 pub not_with : (w : List ℕ) → is_name w ≡ true → bytes_eq w (codes "with") ≡ false
 not_with w is = no_reserved w (codes "with") refl is
-
-pub or_right : (a b : Bool) → b ≡ true → (a || b) ≡ true
-or_right true b e = refl
-or_right false b e = e
-
-and_left : (a b : Bool) → a ≡ false → (a && b) ≡ false
-and_left true b e = absurd (true≢false e)
-and_left false b e = refl
 
 -- what is read so far
 abbrev pub reading : Scope → ℕ → ℕ → Next → Progress
@@ -59,9 +51,9 @@ module _ (m : Model) (scope : Scope) (new : ℕ) where
       → GoesFrom (count + 1) (after_variable v false) ts → GoesFrom count a_constraint (word x ∷ ts)
   variable_first count x v ts few h g = (
     first_fine count x ts few (or_right (bytes_eq x (codes "not")) (is_name x) h.is_one)
-    (or_right (bytes_eq x (codes "not")) (is_some (variable_number scope x)) (ap is_some h.stands)),
+        (or_right (bytes_eq x (codes "not")) (is_some (variable_number scope x)) (ap is_some h.stands)),
     subst (λ n. GoesFrom (count + 1) n ts)
-    (sym (ap (λ b. if b then a_negated_walk else after_variable (number_of scope x) false) (not_not x h.is_one) ∙ ap (λ k. after_variable k false) (number_is x v h))) g,
+        (sym (ap (λ b. if b then a_negated_walk else after_variable (number_of scope x) false) (not_not x h.is_one) ∙ ap (λ k. after_variable k false) (number_is x v h))) g,
   )
 
   -- `not` and a variable first
@@ -83,10 +75,10 @@ module _ (m : Model) (scope : Scope) (new : ℕ) where
       let q = reading scope new count a_constraint in (
         fine m (reading scope new count (after_variable v negated)) open_bracket ((ts ++ close_bracket ∷ word y ∷ []) ++ rest) refl refl refl refl,
         subst (GoesFrom count (a_step 0)) (sym (append_assoc ts (close_bracket ∷ word y ∷ []) rest))
-        (path_passes m q phrase 0 (close_bracket ∷ word y ∷ rest) (
-          fine m (reading scope new count (after_step 0)) close_bracket (word y ∷ rest) refl refl refl refl,
-          (fine m (reading scope new count the_other_end) (word y) rest to.is_one (ap is_some to.stands) refl refl, g),
-        )),
+            (path_passes m q phrase 0 (close_bracket ∷ word y ∷ rest) (
+              fine m (reading scope new count (after_step 0)) close_bracket (word y ∷ rest) refl refl refl refl,
+              (fine m (reading scope new count the_other_end) (word y) rest to.is_one (ap is_some to.stands) refl refl, g),
+            )),
       )
 
   -- an attribute, `=` or `!=`, and a text

@@ -1,18 +1,16 @@
 -- A template text without a fault of holes is a text with holes.
-use Rattle.std.proofs.Common.{◌≡◌, ◌∙◌, sym, ap, subst, refl, ℕ, zero, suc, ◌+◌, ◌≤◌, List, [], ◌∷◌, ◌++◌, length, map, Bool, true, false, not, ◌&&◌, ◌||◌, append_assoc, Option, Some, None, arith}
+use Rattle.std.proofs.Common.{◌≡◌, ◌∙◌, sym, ap, subst, refl, ℕ, suc, ◌+◌, ◌≤◌, List, [], ◌∷◌, ◌++◌, length, map, Bool, true, false, not, ◌&&◌, ◌||◌, append_assoc, Option, Some, None, arith}
 use Rattle.std.specs.Prelude.{◌==◌, codes, bytes_eq, if◌then◌else◌, is_some, nat_le, unwrap_or, filter}
-use Rattle.std.specs.List.{list_all}
 use Rattle.std.proofs.lemmas.Bool.{true≢false, leb-false}
 use Rattle.std.proofs.lemmas.List.{append-nil}
 use Rattle.std.proofs.lemmas.Slice.Eq.{bytes_eq-Decides}
-use Rattle.meaning.specs.Texts.{is_word_byte, begins_with_letter}
 use Rattle.meaning.specs.Models.{Model}
 use Rattle.meaning.specs.QueryTexts.{Scope, variable_number, attribute_number}
 use Rattle.meaning.specs.BundlePlaces.{or_else}
 use Rattle.meaning.specs.Templates.{TextPart, Words, NameOf, AttributeOf, Count}
 use Rattle.meaning.specs.TemplateTexts.{Mark, open_brace, close_brace, byte, mark_of, cut_at_dot}
 use Rattle.meaning.specs.HoleFaults.{is_word, is_name_or_attribute, variable_hole_fault, hole_fault, outside_hole_fault, inside_hole_fault, text_hole_fault}
-use Rattle.meaning.specs.HoleGrammar.{is_brace, Spells, nothing, a_byte, an_open_brace, a_close_brace, IsVariableOf, IsValueOf, IsHole, number_of_answers, name_of, attribute_of, IsHoles, of_rest, words, IsRest, the_end, a_hole, is_hole, IsTextWithHoles, FaultlessHasHoles}
+use Rattle.meaning.specs.HoleGrammar.{is_brace, Spells, nothing, a_byte, an_open_brace, a_close_brace, IsVariableOf, IsHole, number_of_answers, name_of, attribute_of, IsHoles, of_rest, words, IsRest, the_end, a_hole, is_hole, IsTextWithHoles, FaultlessHasHoles}
 use Rattle.meaning.proofs.PathPasses.{some_there}
 use Rattle.meaning.proofs.HolesRead.{holes_in, is_a_hole, has_no_fault}
 

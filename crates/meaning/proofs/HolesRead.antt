@@ -1,24 +1,20 @@
 -- A text with holes has no fault, and the parts that are read of it are those of the grammar.
-use Rattle.std.proofs.Common.{◌≡◌, ◌∙◌, sym, ap, subst, refl, ℕ, zero, suc, ◌+◌, ◌≤◌, List, [], ◌∷◌, ◌++◌, length, map, Bool, true, false, not, ◌&&◌, ◌||◌, append_assoc, Option, Some, None, arith}
+use Rattle.std.proofs.Common.{◌≡◌, ◌∙◌, sym, ap, refl, ℕ, suc, ◌+◌, ◌≤◌, List, [], ◌∷◌, ◌++◌, length, map, Bool, true, false, not, ◌&&◌, ◌||◌, append_assoc, Some, None, arith}
 use Rattle.std.specs.Prelude.{◌==◌, codes, bytes_eq, if◌then◌else◌, is_some, nat_le, unwrap_or, option_map, filter}
 use Rattle.std.specs.List.{list_all}
-use Rattle.std.proofs.lemmas.Bool.{true≢false, lt-leb}
+use Rattle.std.proofs.lemmas.Bool.{true≢false, lt-leb, and_parts, or_right}
 use Rattle.std.proofs.lemmas.List.{append-nil, map-append}
 use Rattle.std.proofs.lemmas.Slice.Eq.{bytes_eq-Decides}
-use Rattle.meaning.specs.Texts.{is_letter, is_word_byte, begins_with_letter}
+use Rattle.meaning.specs.Texts.{is_word_byte, begins_with_letter}
 use Rattle.meaning.specs.Models.{Model}
 use Rattle.meaning.specs.QueryTexts.{Scope, variable_number, attribute_number}
 use Rattle.meaning.specs.BundlePlaces.{or_else}
 use Rattle.meaning.specs.Templates.{TextPart, Words, NameOf, AttributeOf, Count}
 use Rattle.meaning.specs.TemplateTexts.{Mark, open_brace, close_brace, byte, mark_of, Segment, plain, hole, longer_plain, then_byte, outside_hole, inside_hole, cut_at_dot, variable_part, hole_part, part_of, parts_of}
 use Rattle.meaning.specs.HoleFaults.{is_word, is_name_or_attribute, variable_hole_fault, hole_fault, outside_hole_fault, inside_hole_fault, text_hole_fault}
-use Rattle.meaning.specs.HoleGrammar.{is_brace, Spells, nothing, a_byte, an_open_brace, a_close_brace, IsVariableOf, IsValueOf, IsHole, number_of_answers, name_of, attribute_of, IsHoles, of_rest, words, IsRest, the_end, a_hole, is_hole, IsTextWithHoles, ReadsHoles}
+use Rattle.meaning.specs.HoleGrammar.{is_brace, Spells, nothing, a_byte, an_open_brace, a_close_brace, IsHole, number_of_answers, name_of, attribute_of, IsHoles, of_rest, words, IsRest, the_end, a_hole, is_hole, IsTextWithHoles, ReadsHoles}
 
 -- ---- bytes and marks
-
-pub both_true : (a b : Bool) → a && b ≡ true → (a ≡ true) × (b ≡ true)
-both_true true b e = (refl, e)
-both_true false b e = absurd (true≢false (sym e))
 
 plain_mark : (c : ℕ) → is_brace c ≡ false → mark_of c ≡ byte c
 plain_mark c e = go (c == 123) (c == 125) e
@@ -34,7 +30,7 @@ word_byte_plain c e = (grind (arith), grind (arith))
 word_marks : (w : List ℕ) → list_all is_word_byte w ≡ true → map mark_of w ≡ map byte w
 word_marks [] e = refl
 word_marks (c ∷ cs) e =
-    let d = both_true (is_word_byte c) (list_all is_word_byte cs) e in
+    let d = and_parts (is_word_byte c) (list_all is_word_byte cs) e in
     ap (λ k. k ∷ map mark_of cs) (plain_mark c (word_byte_plain c d.0).0) ∙ ap (λ ks. byte c ∷ ks) (word_marks cs d.1)
 
 abbrev pub holes_in : List TextPart → ℕ
@@ -45,7 +41,7 @@ holes_in ps = length (filter is_hole ps)
 cut_word : (x a : List ℕ) → list_all is_word_byte x ≡ true → cut_at_dot (x ++ 46 ∷ a) ≡ (x, a)
 cut_word [] a e = refl
 cut_word (c ∷ cs) a e =
-    let d = both_true (is_word_byte c) (list_all is_word_byte cs) e in
+    let d = and_parts (is_word_byte c) (list_all is_word_byte cs) e in
     ap (λ b. if b then ([], cs ++ 46 ∷ a) else (c ∷ (cut_at_dot (cs ++ 46 ∷ a)).0, (cut_at_dot (cs ++ 46 ∷ a)).1)) (word_byte_plain c d.0).1
     ∙ ap (λ r. (c ∷ r.0, r.1)) (cut_word cs a d.1)
 
@@ -80,8 +76,8 @@ module _ (m : Model) (scope : Scope) (counts : Bool) where
   dotted : (x a : List ℕ) (v : ℕ) (p : TextPart) → is_word x ≡ true → variable_number scope x ≡ Some v → is_word a ≡ true
       → is_name_or_attribute m scope x a ≡ true → variable_part m scope v a ≡ p → HoleText (x ++ 46 ∷ a) p
   dotted x a v p is_x stands is_a known part_is =
-      let dx = both_true (begins_with_letter x) (list_all is_word_byte x) is_x in
-      let da = both_true (begins_with_letter a) (list_all is_word_byte a) is_a in
+      let dx = and_parts (begins_with_letter x) (list_all is_word_byte x) is_x in
+      let da = and_parts (begins_with_letter a) (list_all is_word_byte a) is_a in
       let f = letter_first x dx.0 in
       let no = no_count x (46 ∷ a) dx.0 in
       let cut = cut_word x a dx.1 in record {
@@ -108,10 +104,6 @@ module _ (m : Model) (scope : Scope) (counts : Bool) where
       go : (b : Bool) → bytes_eq w (codes "name") ≡ b → b ≡ false
       go true is = absurd (other ((bytes_eq-Decides w (codes "name")).0 is))
       go false is = refl
-
-  or_right : (a b : Bool) → b ≡ true → (a || b) ≡ true
-  or_right true b e = refl
-  or_right false b e = e
 
   hole_text : {h : List ℕ} {p : TextPart} → IsHole m scope counts h p → HoleText h p
   hole_text (number_of_answers allowed) = record {
@@ -207,18 +199,21 @@ module _ (m : Model) (scope : Scope) (counts : Bool) where
       let t = hole_text is in
       let ms = map mark_of s in
       let marks = hole_marks h s t.first t.others t.shape t.marks in
-      let more : holes_in (p ∷ ps) ≡ suc (holes_in ps) = ap (λ b. length (if b then p ∷ filter is_hole ps else filter is_hole ps)) (is_a_hole h p is) in (record {
-        segments = hole h ∷ r.segments;
-        reads = ap (λ ks. outside_hole (open_brace ∷ ks)) marks
-            ∙ (inside_reads (t.first ∷ t.others) [] ms
-            ∙ (ap (λ w. option_map (λ ss. hole w ∷ ss) (outside_hole ms)) (sym t.shape) ∙ ap (option_map (λ ss. hole h ∷ ss)) r.reads));
-        parts = ap (λ q. q ∷ map (part_of m scope) r.segments) t.part ∙ ap (λ qs. p ∷ qs) r.parts;
-        faultless = λ holes few at.
-            ap (λ ks. outside_hole_fault m scope counts at holes (open_brace ∷ ks)) marks
-            ∙ inside_faultless (t.first ∷ t.others) [] ms at (at + 1) holes
-            (ap (hole_fault m scope counts holes at) (sym t.shape) ∙ t.faultless holes at (omega arith))
-            (r.faultless (holes + 1) (omega arith));
-      }, refl)
+      let more : holes_in (p ∷ ps) ≡ suc (holes_in ps) = ap (λ b. length (if b then p ∷ filter is_hole ps else filter is_hole ps)) (is_a_hole h p is) in (
+        record {
+          segments = hole h ∷ r.segments;
+          reads = ap (λ ks. outside_hole (open_brace ∷ ks)) marks
+              ∙ (inside_reads (t.first ∷ t.others) [] ms
+              ∙ (ap (λ w. option_map (λ ss. hole w ∷ ss) (outside_hole ms)) (sym t.shape) ∙ ap (option_map (λ ss. hole h ∷ ss)) r.reads));
+          parts = ap (λ q. q ∷ map (part_of m scope) r.segments) t.part ∙ ap (λ qs. p ∷ qs) r.parts;
+          faultless = λ holes few at.
+              ap (λ ks. outside_hole_fault m scope counts at holes (open_brace ∷ ks)) marks
+              ∙ inside_faultless (t.first ∷ t.others) [] ms at (at + 1) holes
+              (ap (hole_fault m scope counts holes at) (sym t.shape) ∙ t.faultless holes at (omega arith))
+              (r.faultless (holes + 1) (omega arith));
+        },
+        refl,
+      )
 
   mutual
     holes_read : {s : List ℕ} {ps : List TextPart} → IsHoles m scope counts s ps → Read s ps

@@ -7,8 +7,8 @@ use Rattle.meaning.specs.Texts.{place_of, is_name}
 use Rattle.meaning.specs.Models.{Model}
 use Rattle.meaning.specs.BundlePlaces.{is_among}
 use Rattle.meaning.specs.Queries.{Path, Along, Against, Then, OneOf, Chain}
-use Rattle.meaning.specs.QueryTexts.{Token, word, quoted, colon, comma, open_bracket, close_bracket, open_paren, close_paren, dot, equal_sign, exclamation, bar, slash, plus, caret, blank, strange, kind_names}
-use Rattle.meaning.specs.QueryFaults.{Next, a_step, a_step_back, after_step, the_other_end, Progress, going_on, goes_on, is_known, begins_constraint_too_many, is_variable_too_many, stands_in_scope}
+use Rattle.meaning.specs.QueryTexts.{Token, word, close_bracket, open_paren, close_paren, bar, slash, plus, caret, kind_names}
+use Rattle.meaning.specs.QueryFaults.{a_step, a_step_back, after_step, the_other_end, Progress, going_on, goes_on, is_known, begins_constraint_too_many, is_variable_too_many, stands_in_scope}
 use Rattle.meaning.specs.QueryGrammar.{IsNameOf, IsPath, of_sequence, one_of, IsSequence, of_step, after, IsStep, of_atom, chain, IsAtom, forwards, backwards, grouped}
 use Rattle.meaning.proofs.NamePlaces.{some_place}
 use Rattle.meaning.proofs.QueryPasses.{colon_next, named, Fine, Passes}

@@ -1,8 +1,7 @@
 -- The reader of paths takes each phrase of the grammar, in front of tokens that go no further.
-use Rattle.std.proofs.Common.{◌≡◌, ◌∙◌, ap, refl, ℕ, zero, suc, ◌+◌, ◌*◌, ◌≤◌, List, [], ◌∷◌, ◌++◌, length, Bool, true, false, append_assoc, length-append, Some, None, arith}
+use Rattle.std.proofs.Common.{◌≡◌, ◌∙◌, ap, refl, ℕ, zero, suc, ◌+◌, ◌*◌, ◌≤◌, List, [], ◌∷◌, ◌++◌, length, append_assoc, length-append, Some, arith}
 use Rattle.std.specs.Prelude.{option_map, option_and_then}
-use Rattle.meaning.specs.Texts.{place_of}
-use Rattle.meaning.specs.Queries.{Path, Along, Against, Then, OneOf, Chain}
+use Rattle.meaning.specs.Queries.{Path, Along, Against, Then, OneOf}
 use Rattle.meaning.specs.QueryTexts.{Token, word, caret, open_paren, close_paren, close_bracket, bar, slash, plus, Parsed, closed, read_path, more_path, read_sequence, more_sequence, read_step, more_step, read_atom}
 use Rattle.meaning.specs.QueryGrammar.{IsNameOf, IsPath, of_sequence, one_of, IsSequence, of_step, after, IsStep, of_atom, chain, IsAtom, forwards, backwards, grouped}
 

@@ -1,14 +1,14 @@
 -- A text has no fault of queries exactly where it is a query, and then the reader finds the tree of the grammar.
-use Rattle.std.proofs.Common.{◌≡◌, ◌∙◌, sym, ap, subst, refl, ℕ, ◌+◌, ◌≤◌, List, [], ◌∷◌, ◌++◌, length, map, Bool, true, false, ◌||◌, append_assoc, Option, Some, None, arith}
-use Rattle.std.specs.Prelude.{codes, bytes_eq, if◌then◌else◌, is_some, unwrap_or}
+use Rattle.std.proofs.Common.{◌≡◌, ◌∙◌, sym, ap, subst, refl, ℕ, ◌+◌, ◌≤◌, List, [], ◌∷◌, ◌++◌, length, map, Bool, true, false, ◌||◌, Some, None, arith}
+use Rattle.std.specs.Prelude.{codes, if◌then◌else◌, is_some, unwrap_or}
 use Rattle.std.proofs.lemmas.Bool.{true≢false}
 use Rattle.std.proofs.lemmas.List.{append-nil}
 use Rattle.std.proofs.lemmas.Slice.Eq.{bytes_eq-Decides}
 use Rattle.meaning.specs.Texts.{is_name}
 use Rattle.meaning.specs.Models.{Model}
 use Rattle.meaning.specs.Queries.{Constraint, Query}
-use Rattle.meaning.specs.QueryTexts.{Token, word, quoted, colon, comma, open_bracket, close_bracket, open_paren, close_paren, dot, equal_sign, exclamation, bar, slash, plus, caret, blank, strange, Scope, query_of}
-use Rattle.meaning.specs.QueryFaults.{Next, a_query, the_colon, after_type, a_constraint, is_with, query_fault}
+use Rattle.meaning.specs.QueryTexts.{Token, word, comma, Scope, query_of}
+use Rattle.meaning.specs.QueryFaults.{a_query, the_colon, after_type, a_constraint, is_with, query_fault}
 use Rattle.meaning.specs.QueryGrammar.{IsConstraints, IsConditions, unconditional, with_constraints, IsNew, no_variables, some_variables, IsQuery, query, IsQueryText, variable_names, FaultlessIsQuery, ReadsQueries}
 use Rattle.meaning.specs.BundlePlaces.{are_new}
 use Rattle.meaning.specs.BundleRules.{QueryReads}
@@ -62,7 +62,7 @@ module _ (m : Model) where
     new = [];
     list = c.list;
     tree = subst (λ v. IsQuery m scope (word v ∷ ts) ([], record { variables = []; constraints = c.list })) (with_word w is)
-    (query no_variables (with_constraints (subst (λ s. IsConstraints m s ts c.list) (sym (append-nil scope)) c.phrase)));
+        (query no_variables (with_constraints (subst (λ s. IsConstraints m s ts c.list) (sym (append-nil scope)) c.phrase)));
     fresh = tt;
     few = omega arith;
     few_constraints = let f = c.few in omega arith;
@@ -75,7 +75,7 @@ module _ (m : Model) where
     new = v.list;
     list = cs;
     tree = subst (λ vs. IsQuery m scope vs (v.list, record { variables = map (λ x. x.1) v.list; constraints = cs })) (sym (v.front ∙ ap (λ z. v.taken ++ z) next))
-    (query (some_variables v.phrase) c);
+        (query (some_variables v.phrase) c);
     fresh = v.all_new;
     few = let f = v.few in omega arith;
     few_constraints = few;

@@ -1,13 +1,13 @@
 -- A text of a query has no fault exactly where its tokens go on from the first to an end, and aren't too many.
 use Rattle.std.proofs.Common.{◌≡◌, ◌∙◌, sym, ap, subst, refl, ℕ, suc, ◌+◌, ◌≤◌, List, [], ◌∷◌, length, Bool, true, false, not, ◌&&◌, ◌||◌, Option, Some, None, arith}
-use Rattle.std.specs.Prelude.{if◌then◌else◌, option_map, is_some, nat_le, unwrap_or}
+use Rattle.std.specs.Prelude.{if◌then◌else◌, nat_le, unwrap_or}
 use Rattle.std.proofs.lemmas.Bool.{true≢false, lt-leb, leb-false}
 use Rattle.meaning.specs.Texts.{is_name}
 use Rattle.meaning.specs.Models.{Model}
 use Rattle.meaning.specs.BundlePlaces.{or_else}
 use Rattle.meaning.specs.ExpressionFaults.{TextFault, TooMany, Syntax, UnknownName, Repeated}
-use Rattle.meaning.specs.QueryTexts.{Token, word, quoted, colon, comma, open_bracket, close_bracket, open_paren, close_paren, dot, equal_sign, exclamation, bar, slash, plus, caret, blank, strange, then_token, Scope, cut_at_quotes, tokens_of}
-use Rattle.meaning.specs.QueryFaults.{Next, a_query, a_new_variable, the_colon, the_type, after_type, a_constraint, a_negated_walk, after_variable, an_attribute, a_comparison, a_quoted_text, a_step, a_step_back, after_step, the_other_end, after_constraint, Progress, goes_on, may_end, is_known, follows_colon, new_variable, is_variable_too_many, begins_constraint_too_many, stands_in_scope, progress_after, token_fault, fault_from, placed_tokens, query_fault}
+use Rattle.meaning.specs.QueryTexts.{Token, word, colon, strange, then_token, Scope, cut_at_quotes, tokens_of}
+use Rattle.meaning.specs.QueryFaults.{Next, a_query, a_new_variable, after_step, Progress, goes_on, may_end, is_known, follows_colon, new_variable, is_variable_too_many, begins_constraint_too_many, stands_in_scope, progress_after, fault_from, placed_tokens, query_fault}
 use Rattle.meaning.proofs.QueryTokens.{unplaced, then_proper, tokens_are_placed}
 
 -- ---- tokens that go on
@@ -107,13 +107,16 @@ module _ (m : Model) (end : ℕ) where
       let new : new_variable p.next t qs ≡ named p.next t (colon_next r.0) = new_is_named p.next t qs ∙ ap (named p.next t) (colon_same qs r.0 r.1) in (
         t ∷ r.0,
         going_proper p.next t (unplaced qs) g ∙ ap (then_token t) r.1,
-        (record {
-          goes = g;
-          known = k;
-          few_variables = sym (ap (is_variable_too_many p) new) ∙ v;
-          few_constraints = c;
-          fresh = sym (ap (stands_in_scope p) new) ∙ s;
-        }, r.2),
+        (
+          record {
+            goes = g;
+            known = k;
+            few_variables = sym (ap (is_variable_too_many p) new) ∙ v;
+            few_constraints = c;
+            fresh = sym (ap (stands_in_scope p) new) ∙ s;
+          },
+          r.2,
+        ),
         let more = r.3 in omega arith,
       )
 

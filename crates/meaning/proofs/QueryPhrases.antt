@@ -1,11 +1,11 @@
 -- The reader of queries finds the tree that the grammar has.
-use Rattle.std.proofs.Common.{◌≡◌, ◌∙◌, sym, ap, refl, ℕ, zero, suc, ◌+◌, ◌*◌, ◌≤◌, List, [], ◌∷◌, ◌++◌, length, map, Bool, true, false, append_assoc, length-append, Option, Some, None, arith}
-use Rattle.std.specs.Prelude.{option_map, option_and_then, codes, bytes_eq, if◌then◌else◌}
+use Rattle.std.proofs.Common.{◌≡◌, ◌∙◌, sym, ap, refl, ℕ, zero, suc, ◌+◌, ◌*◌, ◌≤◌, List, [], ◌∷◌, ◌++◌, length, map, Bool, true, false, append_assoc, length-append, Some, arith}
+use Rattle.std.specs.Prelude.{option_map, option_and_then, codes}
 use Rattle.std.proofs.lemmas.List.{append-nil}
 use Rattle.meaning.specs.Models.{Model}
 use Rattle.meaning.specs.Queries.{Path, Constraint, Walks, Attribute, Query}
-use Rattle.meaning.specs.QueryTexts.{Token, word, quoted, colon, comma, open_bracket, close_bracket, dot, equal_sign, exclamation, tokens_of, Scope, variable_number, type_number, attribute_number, kind_names, read_variables, typed, walk_from, attribute_test, read_walk, read_path, read_constraint, read_constraints, more_constraints, read_conditions, query_of_tokens, query_of}
-use Rattle.meaning.specs.QueryGrammar.{IsNameOf, IsAttributeOf, variable_names, type_names, IsPath, IsConstraint, a_walk, no_walk, equals, differs, IsConstraints, of_constraint, and_constraints, IsConditions, unconditional, with_constraints, IsVariable, of_type, IsVariables, of_variable, and_variables, IsNew, no_variables, some_variables, IsQuery, query, IsQueryText}
+use Rattle.meaning.specs.QueryTexts.{Token, word, colon, comma, close_bracket, Scope, attribute_number, kind_names, read_variables, typed, walk_from, attribute_test, read_walk, read_path, read_constraint, read_constraints, more_constraints, read_conditions, query_of_tokens, query_of}
+use Rattle.meaning.specs.QueryGrammar.{IsNameOf, IsAttributeOf, variable_names, type_names, IsPath, IsConstraint, a_walk, no_walk, equals, differs, IsConstraints, of_constraint, and_constraints, IsConditions, unconditional, with_constraints, of_type, IsVariables, of_variable, and_variables, IsNew, no_variables, some_variables, IsQuery, query, IsQueryText}
 use Rattle.meaning.proofs.PathPhrases.{reads_path}
 
 -- ---- constraints

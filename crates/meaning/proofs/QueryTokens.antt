@@ -3,7 +3,7 @@ use Rattle.std.proofs.Common.{◌≡◌, ◌∙◌, sym, ap, refl, ℕ, ◌+◌,
 use Rattle.std.specs.Prelude.{if◌then◌else◌, option_and_then, option_map, ◌==◌}
 use Rattle.std.proofs.lemmas.List.{append-nil}
 use Rattle.meaning.specs.Texts.{begins_with_letter}
-use Rattle.meaning.specs.QueryTexts.{Token, word, quoted, colon, comma, open_bracket, close_bracket, open_paren, close_paren, dot, equal_sign, exclamation, bar, slash, plus, caret, blank, strange, in_first, cut_at_quotes, signs_of, alternate, then_token, proper, tokens_of}
+use Rattle.meaning.specs.QueryTexts.{Token, word, quoted, equal_sign, exclamation, blank, strange, in_first, cut_at_quotes, signs_of, alternate, then_token, proper, tokens_of}
 use Rattle.meaning.specs.QueryFaults.{word_or_strange, placed_signs, placed_tokens}
 
 -- the token in front of others, unless it is stray

@@ -1,19 +1,18 @@
 -- The tokens of new variables go on from the first to what follows them, and tokens that go on so are new variables.
-use Rattle.std.proofs.Common.{◌≡◌, ◌∙◌, sym, ap, subst, refl, ℕ, zero, suc, ◌+◌, ◌≤◌, List, [], ◌∷◌, ◌++◌, length, map, Bool, true, false, not, ◌&&◌, ◌||◌, append_assoc, length-append, Option, Some, None, arith}
-use Rattle.std.specs.Prelude.{codes, bytes_eq, if◌then◌else◌, is_some, nat_le, unwrap_or}
-use Rattle.std.proofs.lemmas.Bool.{true≢false, lt-leb, leb-false}
-use Rattle.std.proofs.lemmas.List.{append-nil}
-use Rattle.meaning.specs.Texts.{place_of, is_name}
+use Rattle.std.proofs.Common.{◌≡◌, ◌∙◌, sym, ap, subst, refl, ℕ, zero, suc, ◌+◌, ◌≤◌, List, [], ◌∷◌, ◌++◌, length, Bool, true, false, not, ◌&&◌, append_assoc, length-append, Option, Some, None, arith}
+use Rattle.std.specs.Prelude.{if◌then◌else◌, is_some, unwrap_or}
+use Rattle.std.proofs.lemmas.Bool.{true≢false, lt-leb, leb-false, and_parts, not-true, or_right}
+use Rattle.meaning.specs.Texts.{is_name}
 use Rattle.meaning.specs.Models.{Model}
 use Rattle.meaning.specs.BundlePlaces.{is_among, are_new}
-use Rattle.meaning.specs.QueryTexts.{Token, word, quoted, colon, comma, open_bracket, close_bracket, open_paren, close_paren, dot, equal_sign, exclamation, bar, slash, plus, caret, blank, strange, Scope, variable_number, type_number}
-use Rattle.meaning.specs.QueryFaults.{Next, a_query, a_new_variable, the_colon, the_type, after_type, a_constraint, Progress, is_with, is_variable_too_many, stands_in_scope, progress_after, goes_on}
+use Rattle.meaning.specs.QueryTexts.{Token, word, colon, comma, Scope, variable_number, type_number}
+use Rattle.meaning.specs.QueryFaults.{Next, a_query, a_new_variable, the_colon, the_type, after_type, a_constraint, is_with, is_variable_too_many, stands_in_scope, progress_after}
 use Rattle.meaning.specs.QueryGrammar.{IsNameOf, variable_names, type_names, IsVariable, of_type, IsVariables, of_variable, and_variables}
 use Rattle.meaning.proofs.NamePlaces.{some_place}
 use Rattle.meaning.proofs.NewNames.{one_more_before}
 use Rattle.meaning.proofs.QueryPasses.{colon_next, named, Fine, Passes}
 use Rattle.meaning.proofs.PathPasses.{fine, some_there}
-use Rattle.meaning.proofs.ConstraintPasses.{reading, not_with, or_right}
+use Rattle.meaning.proofs.ConstraintPasses.{reading, not_with}
 
 -- ---- new names
 
@@ -34,19 +33,11 @@ one_more_seen : (seen : List (List ℕ)) (scope : Scope) (v : List ℕ × ℕ) �
 one_more_seen seen scope v same s =
     one_more_before (variable_names scope) seen v.0 same s ∙ ap (λ ns. is_among ns s) (sym (names_joined scope (v ∷ [])))
 
-both_true : (a b : Bool) → a && b ≡ true → (a ≡ true) × (b ≡ true)
-both_true true b e = (refl, e)
-both_true false b e = absurd (true≢false (sym e))
-
-not_true : (a : Bool) → not a ≡ true → a ≡ false
-not_true true e = absurd (true≢false (sym e))
-not_true false e = refl
-
 each_new : (vs scope : Scope) (seen : List (List ℕ)) → SameNames seen scope → are_new seen (variable_names vs) ≡ true → AllNew scope vs
 each_new [] scope seen same e = tt
 each_new (v ∷ vs) scope seen same e =
-    let d = both_true (not (is_among seen v.0)) (are_new (v.0 ∷ seen) (variable_names vs)) e in (
-      some_place (variable_names scope) v.0 ∙ (sym (same v.0) ∙ not_true (is_among seen v.0) d.0),
+    let d = and_parts (not (is_among seen v.0)) (are_new (v.0 ∷ seen) (variable_names vs)) e in (
+      some_place (variable_names scope) v.0 ∙ (sym (same v.0) ∙ not-true (is_among seen v.0) d.0),
       each_new vs (scope ++ v ∷ []) (v.0 ∷ seen) (one_more_seen seen scope v same) d.1,
     )
 
@@ -110,7 +101,7 @@ module _ (m : Model) where
       → is_some (variable_number scope v.0) ≡ false → GoesFrom (scope ++ v ∷ []) (new + 1) after_type rest → GoesFrom scope new (start first) (ts ++ rest)
   variable_passes (of_type {x = x} {t = t} {n = n} is h) first scope new rest few fresh g = (
     start_fine first scope new x (colon ∷ word t ∷ rest) (Some x) (start_names first x true ∙ ap (λ b. if b && true then Some x else None) is)
-    (lt-leb 3 new few) fresh is,
+        (lt-leb 3 new few) fresh is,
     after_name first scope new x (colon ∷ word t ∷ rest) is (
       fine m (reading scope new 0 (the_colon x)) colon (word t ∷ rest) refl refl refl refl,
       (
