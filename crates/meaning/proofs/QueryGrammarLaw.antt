@@ -9,11 +9,11 @@ use Rattle.meaning.specs.Models.{Model}
 use Rattle.meaning.specs.Queries.{Constraint, Query}
 use Rattle.meaning.specs.QueryTexts.{Token, word, comma, Scope, query_of}
 use Rattle.meaning.specs.QueryFaults.{a_query, the_colon, after_type, a_constraint, is_with, query_fault}
-use Rattle.meaning.specs.QueryGrammar.{IsConstraints, IsConditions, unconditional, with_constraints, IsNew, no_variables, some_variables, IsQuery, query, IsQueryText, variable_names, FaultlessIsQuery, ReadsQueries}
+use Rattle.meaning.specs.QueryGrammar.{IsConstraints, IsConditions, unconditional, with_constraints, IsNew, no_variables, some_variables, IsQuery, query, IsQueryText, variable_names, FaultlessIsQuery, ReadsQueries, OneQuery}
 use Rattle.meaning.specs.BundlePlaces.{are_new}
 use Rattle.meaning.specs.BundleRules.{QueryReads}
 use Rattle.meaning.proofs.QueryPasses.{Fine, Passes, at_start, faultless_passes, passing_faultless}
-use Rattle.meaning.proofs.QueryPhrases.{text_is_read}
+use Rattle.meaning.proofs.QueryPhrases.{query_read, text_is_read}
 use Rattle.meaning.proofs.PathPasses.{fine}
 use Rattle.meaning.proofs.ConstraintPasses.{reading, constraints_pass, constraints_found, Constrains}
 use Rattle.meaning.proofs.VariablePasses.{AllNew, fresh_each, each_fresh, variables_pass, ends_variables, Variables, first_found}
@@ -146,3 +146,6 @@ reads_queries m scope s q = (text_is_read m scope s q, only_query)
 
 pub query_reads : QueryReads
 query_reads m scope s e = let r = text_is_query m scope s e in ap is_some (text_is_read m scope s r.0 r.1)
+
+pub one_query : OneQuery
+one_query m scope ts q r h g = ap (λ o. unwrap_or o q) (sym (query_read m scope ts q h) ∙ query_read m scope ts r g)

@@ -70,3 +70,8 @@ FaultlessHasHoles = (m : Model) (scope : Scope) (counts : Bool) (s : List ℕ)
 abbrev pub ReadsHoles : Type 0
 ReadsHoles = (m : Model) (scope : Scope) (counts : Bool) (s : List ℕ) (parts : List TextPart)
     → IsTextWithHoles m scope counts s parts → parts_of m scope s ≡ parts
+
+-- a text has one list of parts at most
+abbrev pub OneListOfParts : Type 0
+OneListOfParts = (m : Model) (scope : Scope) (counts : Bool) (s : List ℕ) (parts others : List TextPart)
+    → IsHoles m scope counts s parts → IsHoles m scope counts s others → parts ≡ others

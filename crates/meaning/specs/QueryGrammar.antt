@@ -119,3 +119,7 @@ abbrev pub ReadsQueries : Type 0
 ReadsQueries = (m : Model) (scope : Scope) (s : List ℕ) (q : Scope × Query)
     → (IsQueryText m scope s q → query_of m scope s ≡ Some q)
     × (query_fault m scope s ≡ None → query_of m scope s ≡ Some q → IsQueryText m scope s q)
+
+-- tokens are one query at most
+abbrev pub OneQuery : Type 0
+OneQuery = (m : Model) (scope : Scope) (ts : List Token) (q r : Scope × Query) → IsQuery m scope ts q → IsQuery m scope ts r → q ≡ r
