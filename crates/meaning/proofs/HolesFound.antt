@@ -8,11 +8,11 @@ use Rattle.meaning.specs.Models.{Model}
 use Rattle.meaning.specs.QueryTexts.{Scope, variable_number, attribute_number}
 use Rattle.meaning.specs.BundlePlaces.{or_else}
 use Rattle.meaning.specs.Templates.{TextPart, Words, NameOf, AttributeOf, Count}
-use Rattle.meaning.specs.TemplateTexts.{Mark, open_brace, close_brace, byte, mark_of, cut_at_dot}
+use Rattle.meaning.specs.TemplateTexts.{Mark, open_brace, close_brace, byte, mark_of, cut_at_dot, parts_of}
 use Rattle.meaning.specs.HoleFaults.{is_word, is_name_or_attribute, variable_hole_fault, hole_fault, outside_hole_fault, inside_hole_fault, text_hole_fault}
-use Rattle.meaning.specs.HoleGrammar.{is_brace, Spells, nothing, a_byte, an_open_brace, a_close_brace, IsVariableOf, IsHole, number_of_answers, name_of, attribute_of, IsHoles, of_rest, words, IsRest, the_end, a_hole, is_hole, IsTextWithHoles, FaultlessHasHoles}
+use Rattle.meaning.specs.HoleGrammar.{is_brace, Spells, nothing, a_byte, an_open_brace, a_close_brace, IsVariableOf, IsHole, number_of_answers, name_of, attribute_of, IsHoles, of_rest, words, IsRest, the_end, a_hole, is_hole, IsTextWithHoles, FaultlessHasHoles, ReadsHoles}
 use Rattle.meaning.proofs.PathPasses.{some_there}
-use Rattle.meaning.proofs.HolesRead.{holes_in, is_a_hole, has_no_fault}
+use Rattle.meaning.proofs.HolesRead.{holes_in, is_a_hole, has_no_fault, parts_are_read}
 
 -- ---- the bytes of marks
 
@@ -224,3 +224,10 @@ text_has_holes m scope counts s e =
 
 pub faultless_has_holes : FaultlessHasHoles
 faultless_has_holes m scope counts s = (text_has_holes m scope counts s, has_no_fault m scope counts s)
+
+pub reads_holes : ReadsHoles
+reads_holes m scope counts s = (parts_are_read m scope counts s, are_holes)
+  where
+    are_holes : text_hole_fault m scope counts s ≡ None → IsTextWithHoles m scope counts s (parts_of m scope s)
+    are_holes e =
+        let r = text_has_holes m scope counts s e in subst (IsTextWithHoles m scope counts s) (sym (parts_are_read m scope counts s r.0 r.1)) r.1

@@ -12,7 +12,7 @@ use Rattle.meaning.specs.BundlePlaces.{or_else}
 use Rattle.meaning.specs.Templates.{TextPart, Words, NameOf, AttributeOf, Count}
 use Rattle.meaning.specs.TemplateTexts.{Mark, open_brace, close_brace, byte, mark_of, Segment, plain, hole, longer_plain, then_byte, outside_hole, inside_hole, cut_at_dot, variable_part, hole_part, part_of, parts_of}
 use Rattle.meaning.specs.HoleFaults.{is_word, is_name_or_attribute, variable_hole_fault, hole_fault, outside_hole_fault, inside_hole_fault, text_hole_fault}
-use Rattle.meaning.specs.HoleGrammar.{is_brace, Spells, nothing, a_byte, an_open_brace, a_close_brace, IsHole, number_of_answers, name_of, attribute_of, IsHoles, of_rest, words, IsRest, the_end, a_hole, is_hole, IsTextWithHoles, ReadsHoles, OneListOfParts}
+use Rattle.meaning.specs.HoleGrammar.{is_brace, Spells, nothing, a_byte, an_open_brace, a_close_brace, IsHole, number_of_answers, name_of, attribute_of, IsHoles, of_rest, words, IsRest, the_end, a_hole, is_hole, IsTextWithHoles, OneListOfParts}
 
 -- ---- bytes and marks
 
@@ -235,9 +235,9 @@ pub has_no_fault : (m : Model) (scope : Scope) (counts : Bool) (s : List ℕ) (p
 unfolding text_hole_fault
 has_no_fault m scope counts s ps h = let r = holes_read m scope counts h.tree in r.faultless 0 (let f = h.few_holes in omega arith) 0
 
-pub reads_holes : ReadsHoles
+pub parts_are_read : (m : Model) (scope : Scope) (counts : Bool) (s : List ℕ) (ps : List TextPart) → IsTextWithHoles m scope counts s ps → parts_of m scope s ≡ ps
 unfolding parts_of
-reads_holes m scope counts s ps h =
+parts_are_read m scope counts s ps h =
     let r = holes_read m scope counts h.tree in ap (λ o. map (part_of m scope) (unwrap_or o [])) r.reads ∙ r.parts
 
 pub one_list_of_parts : OneListOfParts

@@ -66,10 +66,11 @@ FaultlessHasHoles = (m : Model) (scope : Scope) (counts : Bool) (s : List ℕ)
     → (text_hole_fault m scope counts s ≡ None → (parts : List TextPart) × IsTextWithHoles m scope counts s parts)
     × ((parts : List TextPart) → IsTextWithHoles m scope counts s parts → text_hole_fault m scope counts s ≡ None)
 
--- the parts that are read of such a text are those of the grammar
+-- the parts that are read of such a text are those of the grammar, and where it has no fault it is one with these
 abbrev pub ReadsHoles : Type 0
-ReadsHoles = (m : Model) (scope : Scope) (counts : Bool) (s : List ℕ) (parts : List TextPart)
-    → IsTextWithHoles m scope counts s parts → parts_of m scope s ≡ parts
+ReadsHoles = (m : Model) (scope : Scope) (counts : Bool) (s : List ℕ)
+    → ((parts : List TextPart) → IsTextWithHoles m scope counts s parts → parts_of m scope s ≡ parts)
+    × (text_hole_fault m scope counts s ≡ None → IsTextWithHoles m scope counts s (parts_of m scope s))
 
 -- a text has one list of parts at most
 abbrev pub OneListOfParts : Type 0
