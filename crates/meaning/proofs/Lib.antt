@@ -61,3 +61,13 @@ pub mod KeptRules
 pub mod NewPairs
 pub mod BundleNames
 pub mod SameBuilds
+pub mod QueryTokens
+pub mod QueryPasses
+pub mod PathPhrases
+pub mod QueryPhrases
+pub mod PathPasses
+pub mod ConstraintPasses
+pub mod VariablePasses
+pub mod QueryGrammarLaw
+pub mod HolesRead
+pub mod HolesFound

@@ -19,7 +19,7 @@ among_both (x ∷ xs) ys s = ap (λ b. bytes_eq s x || b) (among_both xs ys s) �
     joined a b c = grind (arith, common_steps)
 
 -- one more before, at the end and in front
-one_more_before : (before seen : List (List ℕ)) (x : List ℕ) → ((s : List ℕ) → is_among seen s ≡ is_among before s)
+pub one_more_before : (before seen : List (List ℕ)) (x : List ℕ) → ((s : List ℕ) → is_among seen s ≡ is_among before s)
     → (s : List ℕ) → is_among (x ∷ seen) s ≡ is_among (before ++ x ∷ []) s
 one_more_before before seen x h s =
     ap (λ b. bytes_eq s x || b) (h s) ∙ turned (bytes_eq s x) (is_among before s) ∙ sym (among_both before (x ∷ []) s)

@@ -11,6 +11,7 @@ pub mod ModelRules
 pub mod Queries
 pub mod QueryTexts
 pub mod QueryFaults
+pub mod QueryGrammar
 pub mod Systems
 pub mod Cases
 pub mod CaseFiles
@@ -20,6 +21,7 @@ pub mod Configurations
 pub mod Templates
 pub mod TemplateTexts
 pub mod HoleFaults
+pub mod HoleGrammar
 pub mod TemplateRules
 pub mod Derivation
 pub mod Evidence
