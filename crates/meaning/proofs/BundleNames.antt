@@ -1,15 +1,12 @@
 -- In a bundle that breaks no rule no possible key and no element with a system stands twice, and in each product's instance the node above a node is there.
-use Rattle.std.proofs.Common.{◌≡◌, ◌≢◌, ℕ, zero, suc, ◌+◌, ◌^◌, ◌<◌, ◌≤◌, List, [], ◌∷◌, ◌++◌, map, length, Bool, true, false, not, ◌&&◌, ◌||◌, ◌==◌, Some, None, Option, refl, sym, ap, ◌∙◌, subst, arith}
-use Rattle.std.specs.Prelude.{cond, filter, take, sum_by, bytes_eq, codes, unwrap_or, option_map, if◌then◌else◌}
-use Rattle.std.specs.List.{slice_get, enumerate_from, list_all}
+use Rattle.std.proofs.Common.{◌≡◌, ◌≢◌, ℕ, zero, suc, ◌+◌, ◌^◌, ◌<◌, ◌≤◌, List, [], ◌∷◌, ◌++◌, map, length, Bool, true, false, Some, None, refl, sym, ap, ◌∙◌, subst, arith}
+use Rattle.std.specs.Prelude.{take, sum_by, codes, unwrap_or, if◌then◌else◌}
+use Rattle.std.specs.List.{slice_get, enumerate_from}
 use Rattle.std.proofs.lemmas.List.{length-map, length-append, append_assoc}
 use Rattle.std.proofs.lemmas.List.Sums.{sum_by-append, sum_by-cons}
-use Rattle.std.proofs.lemmas.Option.{slice_get-map}
 use Rattle.std.proofs.Math.Seq.{take-append_seam}
-use Rattle.std.proofs.lemmas.Bool.Decides.{nat_tests}
-use Rattle.std.proofs.lemmas.Slice.Eq.{bytes_eq-Decides}
-use Rattle.meaning.specs.Texts.{flat, numbered, place_of, first_of_list}
-use Rattle.meaning.specs.Documents.{Document, text_at, list_at, table_at}
+use Rattle.meaning.specs.Texts.{numbered, place_of}
+use Rattle.meaning.specs.Documents.{Document, text_at, list_at}
 use Rattle.meaning.specs.Models.{Model, Element, model_of, model_at, number_in}
 use Rattle.meaning.specs.Queries.{element_numbers}
 use Rattle.meaning.specs.Templates.{Template}
@@ -29,10 +26,9 @@ use Rattle.meaning.proofs.EachMembers.{each_by, each_filtered}
 use Rattle.meaning.proofs.EmptyLists.{both_true}
 use Rattle.meaning.proofs.NameTexts.{place_among}
 use Rattle.meaning.proofs.NewPairs.{names_differ, name_at_place}
-use Rattle.meaning.proofs.Lists.{map_nothing}
 use Rattle.meaning.proofs.Members.{Pairwise}
 use Rattle.meaning.proofs.Pairs.{each_of_map}
-use Rattle.meaning.proofs.EqualityTests.{same_text, equal_texts, not_both, none_is_some, some_is}
+use Rattle.meaning.proofs.EqualityTests.{none_is_some, some_is}
 use Rattle.meaning.proofs.ReadCases.{nothing_left, no_first, each_numbered}
 use Rattle.meaning.proofs.KeptRules.{holds_if_required, formed, each_keeps, list_keeps, item_keeps, few_after}
 use Rattle.meaning.proofs.LowerNodes.{numbers_below}
@@ -112,8 +108,11 @@ module _ (d : Document) (sound : first_fault d ≡ None) where
 
   few_elements_given : length (list_at (codes "elements") (model_in d)) ≤ 2048
   few_elements_given =
-      omega (arith, few_after 2048 0 0 (list_at (codes "elements") (model_in d)) (omega arith)
-      (each_by _ (λ x. is_within 2048 (0 + x.0) ≡ true) element_within (numbered (list_at (codes "elements") (model_in d))) model_kept.elements))
+      omega (
+        arith,
+        few_after 2048 0 0 (list_at (codes "elements") (model_in d)) (omega arith)
+            (each_by _ (λ x. is_within 2048 (0 + x.0) ≡ true) element_within (numbered (list_at (codes "elements") (model_in d))) model_kept.elements),
+      )
 
   abbrev b : Bundle
   b = bundle_of d

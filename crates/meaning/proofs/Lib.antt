@@ -48,6 +48,7 @@ pub mod KeysDiffer
 pub mod ReadCases
 pub mod LikeDocuments
 pub mod OnceLists
+pub mod SeenLists
 pub mod InstanceNodes
 pub mod UpperKeys
 pub mod TidySights

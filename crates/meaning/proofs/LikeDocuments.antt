@@ -1,20 +1,13 @@
 -- Case documents that differ in their identifiers and tables alone: their conditions side by side.
-use Rattle.std.proofs.Common.{◌≡◌, ℕ, List, [], ◌∷◌, ◌++◌, map, Bool, Some, None, Option, refl, sym, ap, ◌∙◌}
+use Rattle.std.proofs.Common.{◌≡◌, ℕ, List, [], ◌∷◌, ◌++◌, map, Some, None, Option, refl, ap}
 use Rattle.meaning.specs.Texts.{flat}
-use Rattle.meaning.specs.CaseFiles.{Row, Finding, CaseNode, CaseRelation, CaseSystem, CaseDocument}
+use Rattle.meaning.specs.CaseFiles.{Finding, CaseNode, CaseRelation, CaseSystem, CaseDocument}
 use Rattle.meaning.specs.TableOrder.{conditions_of, conditions_of_finding}
 use Rattle.meaning.proofs.CutTrees.{Each}
-use Rattle.meaning.proofs.PairedLists.{Paired, paired_append, paired_map, paired_flat, paired_equal}
+use Rattle.meaning.proofs.PairedLists.{Paired, paired_append, paired_map, paired_flat, paired_equal, paired_with}
 use Rattle.meaning.proofs.ReadCases.{conditions_of_node, conditions_of_system}
 
--- ---- lists side by side, with what holds of each element
-
-pub paired_with : {A B : Type 0} (P : A → Type 0) (Q : B → Type 0) (R S : A → B → Type 0) → ((x : A) (y : B) → P x → Q y → R x y → S x y)
-    → (xs : List A) (ys : List B) → Each P xs → Each Q ys → Paired R xs ys → Paired S xs ys
-paired_with P Q R S f [] [] p q h = tt
-paired_with P Q R S f [] (y ∷ ys) p q h = elim h [ ]
-paired_with P Q R S f (x ∷ xs) [] p q h = elim h [ ]
-paired_with P Q R S f (x ∷ xs) (y ∷ ys) p q h = (f x y p.0 q.0 h.0, paired_with P Q R S f xs ys p.1 q.1 h.1)
+-- ---- what holds of each element of parts
 
 pub each_split : {A : Type 0} (P : A → Type 0) (xs ys : List A) → Each P (xs ++ ys) → Each P xs × Each P ys
 each_split P [] ys h = (tt, h)

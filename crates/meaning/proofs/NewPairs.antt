@@ -1,5 +1,5 @@
 -- Names that are new among all of a list differ pair by pair, and the place of a name has that name.
-use Rattle.std.proofs.Common.{◌≡◌, ◌≢◌, ℕ, zero, suc, ◌+◌, List, [], ◌∷◌, map, Bool, true, false, not, ◌&&◌, ◌||◌, Some, None, Option, refl, sym, ap, ◌∙◌}
+use Rattle.std.proofs.Common.{◌≡◌, ◌≢◌, ℕ, suc, ◌+◌, List, [], ◌∷◌, map, Bool, true, false, not, ◌||◌, Some, None, Option, refl, sym, ap, ◌∙◌}
 use Rattle.std.specs.Prelude.{bytes_eq, option_map, if◌then◌else◌}
 use Rattle.std.specs.List.{slice_get, list_all, enumerate_from}
 use Rattle.meaning.specs.Texts.{numbered, place_of}
@@ -9,7 +9,7 @@ use Rattle.meaning.proofs.CutTrees.{Each}
 use Rattle.meaning.proofs.EmptyLists.{both_true}
 use Rattle.meaning.proofs.NewNames.{new_names}
 use Rattle.meaning.proofs.Members.{Pairwise}
-use Rattle.meaning.proofs.EqualityTests.{same_text, equal_texts, not_both, none_is_some, some_is}
+use Rattle.meaning.proofs.EqualityTests.{same_text, equal_texts, none_is_some, some_is}
 
 -- what is new is none of those before
 apart_from_seen : (s : List ℕ) (seen ss : List (List ℕ)) → is_among seen s ≡ true → are_new seen ss ≡ true → Each (λ t. s ≢ t) ss

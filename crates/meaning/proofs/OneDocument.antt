@@ -1,6 +1,5 @@
 -- Two cases of one bundle that read without a fault, are tidy and have their tables in order are one document.
-use Rattle.std.proofs.Common.{◌≡◌, ℕ, List, [], ◌∷◌, length, Bool, true, false, refl, sym, ap, ◌∙◌, subst}
-use Rattle.std.specs.Prelude.{IsTrue, IsFalse}
+use Rattle.std.proofs.Common.{◌≡◌, ℕ, List, ◌∷◌, length, Bool, true, false, refl, sym, ap, ◌∙◌, subst}
 use Rattle.meaning.specs.Features.{is_valid}
 use Rattle.meaning.specs.CaseFiles.{CaseDocument, holds}
 use Rattle.meaning.specs.TableOrder.{conditions_of, IsTableInOrder, walk_order}
@@ -11,11 +10,10 @@ use Rattle.meaning.proofs.Members.{contains_member}
 use Rattle.meaning.proofs.Lists.{each_two, each_of_all}
 use Rattle.meaning.proofs.EachMembers.{each_by}
 use Rattle.meaning.proofs.Members.{Member, each_from_members}
-use Rattle.meaning.proofs.TableValues.{value, holds_value}
+use Rattle.meaning.proofs.TableValues.{holds_value}
 use Rattle.meaning.proofs.ReducedTables.{IsReduced, IsWithin, Alike}
-use Rattle.meaning.proofs.WalkedTables.{Pair, IsWalked, AreOne, walked_tables_are_one}
+use Rattle.meaning.proofs.WalkedTables.{Pair, AreOne, walked_tables_are_one}
 use Rattle.meaning.proofs.ReadCases.{IsRead, table_is_reduced, valid_is_there, conditions_are_there}
-use Rattle.meaning.proofs.PairedLists.{Paired}
 use Rattle.meaning.proofs.LikeDocuments.{DocumentLike, like_conditions, like_documents, documents_equal}
 use Rattle.meaning.proofs.TidySights.{HasProperNames}
 use Rattle.meaning.proofs.TwinNodes.{AgreeWhereValid}

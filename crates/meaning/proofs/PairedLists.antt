@@ -2,6 +2,7 @@
 use Rattle.std.proofs.Common.{◌≡◌, ℕ, zero, suc, List, [], ◌∷◌, ◌++◌, map, length, Some, None, refl, sym, ap, arith}
 use Rattle.std.specs.List.{slice_get}
 use Rattle.meaning.specs.Texts.{flat}
+use Rattle.meaning.proofs.CutTrees.{Each}
 
 abbrev pub Paired : {A B : Type 0} → (A → B → Type 0) → List A → List B → Type 0
 Paired R [] [] = Unit {0}
@@ -81,3 +82,43 @@ module _ {A : Type 0} where
   paired_equal R f [] (y ∷ ys) h = elim h [ ]
   paired_equal R f (x ∷ xs) [] h = elim h [ ]
   paired_equal R f (x ∷ xs) (y ∷ ys) h = rw (f x y h.0, paired_equal R f xs ys h.1) refl
+
+-- lists that two functions map to one
+pub paired_of_maps : {A B C : Type 0} (f : A → C) (g : B → C) (xs : List A) (ys : List B) → map f xs ≡ map g ys → Paired (λ x y. f x ≡ g y) xs ys
+paired_of_maps f g [] [] e = tt
+paired_of_maps f g [] (y ∷ ys) e = elim (no_item e) [ ]
+  where
+    no_item : [] ≡ g y ∷ map g ys → ⊥
+    no_item h = cc
+paired_of_maps f g (x ∷ xs) [] e = elim (no_item e) [ ]
+  where
+    no_item : f x ∷ map f xs ≡ [] → ⊥
+    no_item h = cc
+paired_of_maps f g (x ∷ xs) (y ∷ ys) e = (first e, paired_of_maps f g xs ys (rest e))
+  where
+    first : f x ∷ map f xs ≡ g y ∷ map g ys → f x ≡ g y
+    first h = cc
+
+    rest : f x ∷ map f xs ≡ g y ∷ map g ys → map f xs ≡ map g ys
+    rest h = cc
+
+pub paired_two : {A B : Type 0} (R S : A → B → Type 0) (xs : List A) (ys : List B) → Paired R xs ys → Paired S xs ys → Paired (λ x y. R x y × S x y) xs ys
+paired_two R S [] [] h g = tt
+paired_two R S [] (y ∷ ys) h g = elim h [ ]
+paired_two R S (x ∷ xs) [] h g = elim h [ ]
+paired_two R S (x ∷ xs) (y ∷ ys) h g = ((h.0, g.0), paired_two R S xs ys h.1 g.1)
+
+-- with what holds of each element of the two lists
+pub paired_with : {A B : Type 0} (P : A → Type 0) (Q : B → Type 0) (R S : A → B → Type 0) → ((x : A) (y : B) → P x → Q y → R x y → S x y)
+    → (xs : List A) (ys : List B) → Each P xs → Each Q ys → Paired R xs ys → Paired S xs ys
+paired_with P Q R S f [] [] p q h = tt
+paired_with P Q R S f [] (y ∷ ys) p q h = elim h [ ]
+paired_with P Q R S f (x ∷ xs) [] p q h = elim h [ ]
+paired_with P Q R S f (x ∷ xs) (y ∷ ys) p q h = (f x y p.0 q.0 h.0, paired_with P Q R S f xs ys p.1 q.1 h.1)
+
+-- at each of many, of each pair: of each pair, at each
+pub paired_for_all : {A B W : Type 0} (Q : W → A → B → Type 0) (R : A → B → Type 0) (xs : List A) (ys : List B) → Paired R xs ys → ((w : W) → Paired (Q w) xs ys) → Paired (λ x y. (w : W) → Q w x y) xs ys
+paired_for_all Q R [] [] r h = tt
+paired_for_all Q R [] (y ∷ ys) r h = elim r [ ]
+paired_for_all Q R (x ∷ xs) [] r h = elim r [ ]
+paired_for_all Q R (x ∷ xs) (y ∷ ys) r h = ((λ w. (h w).0), paired_for_all Q R xs ys r.1 (λ w. (h w).1))

@@ -1,13 +1,13 @@
 -- What a case that reads without a fault keeps: its table is reduced, its identifiers and the ends of its relations are there.
-use Rattle.std.proofs.Common.{◌≡◌, ◌≢◌, ℕ, zero, suc, ◌+◌, ◌<◌, ◌≤◌, List, [], ◌∷◌, ◌++◌, map, length, Bool, true, false, not, ◌&&◌, ◌||◌, ◌==◌, Some, None, Option, refl, sym, ap, ◌∙◌, subst, arith, ◌⊎◌, inl, inr}
-use Rattle.std.specs.Prelude.{cond, filter, take, nat_lt, codes, is_none, option_map}
+use Rattle.std.proofs.Common.{◌≡◌, ℕ, zero, suc, ◌+◌, ◌<◌, ◌≤◌, List, [], ◌∷◌, ◌++◌, map, length, Bool, true, false, not, ◌&&◌, ◌||◌, ◌==◌, Some, None, Option, refl, sym, ap, ◌∙◌, subst, arith, ◌⊎◌, inl, inr}
+use Rattle.std.specs.Prelude.{cond, filter, take, nat_lt, codes, is_none}
 use Rattle.std.specs.List.{slice_get, list_all, list_any, enumerate_from}
 use Rattle.std.proofs.lemmas.Bool.{cases_lt}
 use Rattle.std.proofs.lemmas.Bool.Decides.{nat_tests}
 use Rattle.meaning.specs.Texts.{flat, first_of_list}
-use Rattle.meaning.specs.Documents.{Document, Json, document_of, as_table, list_at, natural_at}
-use Rattle.meaning.specs.CaseFiles.{Row, CaseNode, CaseRelation, CaseSystem, Finding, CaseDocument}
-use Rattle.meaning.specs.CaseReading.{CaseReading, CaseFault, Part, Document', Table, Systems, Nodes, Valid, Relations, Broken, Is, read_case, read_document, read_table_document, unless_broken, form_faults, faults_within, case_document_of, row_of, same_row, row_fits, row_document_fits, is_triple, table_faults, id_faults, end_faults, text_faults, word_faults, limit_faults, faults_at, failing, system_fits, node_fits, is_id, finding_ids, unless, variable_after, no_case}
+use Rattle.meaning.specs.Documents.{Document, Json, document_of, as_table, list_at}
+use Rattle.meaning.specs.CaseFiles.{Row, CaseNode, CaseSystem, Finding, CaseDocument}
+use Rattle.meaning.specs.CaseReading.{CaseFault, Part, Table, Systems, Nodes, Valid, Relations, Broken, Is, read_case, read_document, read_table_document, unless_broken, form_faults, faults_within, case_document_of, row_of, same_row, row_fits, row_document_fits, is_triple, table_faults, id_faults, end_faults, word_faults, limit_faults, faults_at, failing, system_fits, node_fits, is_id, finding_ids, unless, variable_after, no_case}
 use Rattle.meaning.specs.TableOrder.{conditions_of, conditions_of_finding}
 use Rattle.meaning.proofs.CutTrees.{Each}
 use Rattle.meaning.proofs.EmptyLists.{both_true}
@@ -246,8 +246,7 @@ module _ (k : CaseDocument) (h : IsRead k) where
           → Each (IsWithin k.table) (n.presence ∷ (n.branches ++ conditions_of_finding n.finding))
       node n e =
           let both = both_true _ (list_all (is_id k) (finding_ids n.finding)) e in
-          let first = both_true (is_id k n.presence) (list_all (is_id k) n.branches) both.0 in
-          (
+          let first = both_true (is_id k n.presence) (list_all (is_id k) n.branches) both.0 in (
             below n.presence (length k.table + 2) first.0,
             each_append _ n.branches (conditions_of_finding n.finding) (all_within n.branches first.1)
                 (subst (Each (IsWithin k.table)) (same_ids n.finding) (all_within (finding_ids n.finding) both.1)),

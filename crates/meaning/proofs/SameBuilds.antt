@@ -1,8 +1,7 @@
 -- Two builds of one bundle are the same bytes: both are the bytes of one document.
-use Rattle.std.proofs.Common.{◌≡◌, ℕ, List, None, sym, ap, ◌∙◌, subst}
-use Rattle.meaning.specs.BundleRules.{first_fault}
+use Rattle.std.proofs.Common.{◌≡◌, ℕ, List, sym, ap, ◌∙◌, subst}
 use Rattle.meaning.specs.CaseBytes.{case_bytes}
-use Rattle.meaning.specs.Derivation.{Bundle, bundle_of}
+use Rattle.meaning.specs.Derivation.{Bundle}
 use Rattle.meaning.specs.Headline.{IsBuildOf}
 use Rattle.meaning.specs.SameBuilds.{TwoBuildsAgree}
 use Rattle.meaning.proofs.ReadCases.{case_is_read}

@@ -3,20 +3,9 @@ use Rattle.std.proofs.Common.{◌≡◌, ◌≢◌, ℕ, zero, suc, ◌+◌, ◌
 use Rattle.std.specs.Prelude.{cond, reverse}
 use Rattle.std.specs.List.{slice_get}
 use Rattle.std.proofs.lemmas.List.{reverse-append, length-reverse, append_assoc}
-use Rattle.std.proofs.lemmas.Bool.Decides.{nat_tests}
 use Rattle.meaning.specs.Texts.{holds_at}
+use Rattle.meaning.proofs.EqualityTests.{other_number, same_number}
 use Rattle.meaning.specs.CaseFiles.{Row, walk_down, step_down, CaseDocument, holds}
-
--- ---- numbers
-
-pub other_number : (a b : ℕ) → a ≢ b → (a == b) ≡ false
-other_number a b e = grind (arith, nat_tests)
-
-pub same_number : (a b : ℕ) → a ≡ b → (a == b) ≡ true
-same_number a b e = grind (arith, nat_tests)
-
-pub equal_numbers : (a b : ℕ) → (a == b) ≡ true → a ≡ b
-equal_numbers a b e = grind (arith, nat_tests)
 
 -- ---- the walk down
 

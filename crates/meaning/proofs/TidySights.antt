@@ -1,17 +1,17 @@
 -- What a tidy case has at a valid world: the node of each key that the product has, and the node above each that is there.
-use Rattle.std.proofs.Common.{◌≡◌, ◌≢◌, ℕ, List, [], ◌∷◌, map, Bool, true, false, ◌&&◌, Some, None, Option, refl, sym, ap, ◌∙◌, subst, ◌⊎◌, inl, inr}
-use Rattle.std.specs.Prelude.{cond, filter, find, bytes_eq, is_some, IsTrue, Contains}
+use Rattle.std.proofs.Common.{◌≡◌, ◌≢◌, ℕ, List, [], ◌∷◌, map, Bool, true, false, ◌&&◌, Some, None, Option, refl, sym, ap, ◌∙◌, subst, inl, inr}
+use Rattle.std.specs.Prelude.{cond, filter, find, bytes_eq, is_some, IsTrue}
 use Rattle.meaning.specs.Features.{is_valid}
-use Rattle.meaning.specs.Cases.{Node, Relation}
+use Rattle.meaning.specs.Cases.{Node}
 use Rattle.meaning.specs.Templates.{Findings}
-use Rattle.meaning.specs.CaseFiles.{CaseDocument, CaseNode, CaseRelation, holds, cut, node_at_world, relation_at_world, is_there}
+use Rattle.meaning.specs.CaseFiles.{CaseDocument, CaseNode, holds, cut, node_at_world, relation_at_world, is_there}
 use Rattle.meaning.specs.Derivation.{Bundle, case_at}
-use Rattle.meaning.specs.Tidy.{Tidy, ValidWorld, node_with_key, findings_at, instance_at, possible_keys, name_of_element, key_above}
+use Rattle.meaning.specs.Tidy.{Tidy, ValidWorld, node_with_key, instance_at, possible_keys, name_of_element, key_above}
+use Rattle.meaning.proofs.SeenLists.{IsThat, seen_is_that}
 use Rattle.meaning.proofs.CutTrees.{Each}
 use Rattle.meaning.proofs.Members.{Member, Pairwise, member_each, member_mapped, mapped_member, member_kept, contains_member}
 use Rattle.meaning.proofs.Pairs.{pairs_from_all_differ}
 use Rattle.meaning.proofs.EqualityTests.{equal_texts, none_is_some, some_is}
-use Rattle.meaning.proofs.OnceLists.{IsThat, seen_is_that}
 use Rattle.meaning.proofs.InstanceNodes.{Seen}
 use Rattle.meaning.proofs.UpperKeys.{key_seen}
 

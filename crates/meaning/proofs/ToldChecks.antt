@@ -1,10 +1,9 @@
 -- What the findings of a tidy case tell of the templates' checks.
-use Rattle.std.proofs.Common.{◌≡◌, ◌≢◌, ℕ, zero, suc, ◌+◌, List, [], ◌∷◌, map, length, Bool, true, false, not, Some, None, Option, refl, sym, ap, ◌∙◌, subst, arith, ◌⊎◌, inl, inr}
-use Rattle.std.specs.Prelude.{IsTrue, Contains, bytes_eq, find, option_map, option_and_then}
+use Rattle.std.proofs.Common.{◌≡◌, ℕ, suc, ◌+◌, List, [], ◌∷◌, length, true, not, Some, None, Option, refl, sym, ap, ◌∙◌, arith, inl, inr}
+use Rattle.std.specs.Prelude.{bytes_eq, find, option_map, option_and_then}
 use Rattle.std.specs.List.{slice_get, enumerate_from}
 use Rattle.meaning.specs.Texts.{numbered}
 use Rattle.meaning.specs.Expressions.{print}
-use Rattle.meaning.specs.Features.{is_valid}
 use Rattle.meaning.specs.Models.{Element}
 use Rattle.meaning.specs.Systems.{Never, NoDeadlock}
 use Rattle.meaning.specs.Templates.{Check, OfSystem, NoAnswer, SomeAnswer, Findings}
@@ -13,7 +12,7 @@ use Rattle.meaning.specs.CaseFiles.{CaseCheck, CaseDocument, CaseNode, CaseSyste
 use Rattle.meaning.specs.Derivation.{Bundle}
 use Rattle.meaning.specs.Evidence.{system_number}
 use Rattle.meaning.specs.Tidy.{Tidy, TellsCheck, element_of_check, name_of_element, findings_at, instance_at}
-use Rattle.meaning.proofs.Members.{Member, member_each, contains_member, member_at}
+use Rattle.meaning.proofs.Members.{Member, member_each, contains_member}
 use Rattle.meaning.proofs.EqualityTests.{equal_texts, none_is_some, some_is}
 use Rattle.meaning.proofs.InstanceNodes.{HasElement, TellsCheckOf, verdicts_tell}
 use Rattle.meaning.proofs.TidySights.{Sight, sight_in_instance, sight_seen, found_member}

@@ -1,8 +1,7 @@
 -- Two tidy cases of one bundle differ in their identifiers and tables alone.
-use Rattle.std.proofs.Common.{◌≡◌, ℕ, List, [], ◌∷◌, map, Bool, true, false, Some, None, Option, refl, sym, ap, ◌∙◌, subst}
-use Rattle.std.specs.Prelude.{IsTrue, option_map}
-use Rattle.meaning.specs.Features.{is_valid}
-use Rattle.meaning.specs.CaseFiles.{CaseDocument, CaseNode, Finding, holds, node_at_world}
+use Rattle.std.proofs.Common.{◌≡◌, ℕ, List, map, Bool, Some, None, Option, refl, sym, ap, ◌∙◌, subst}
+use Rattle.std.specs.Prelude.{option_map}
+use Rattle.meaning.specs.CaseFiles.{CaseDocument, CaseNode, Finding, node_at_world}
 use Rattle.meaning.specs.Derivation.{Bundle}
 use Rattle.meaning.specs.Tidy.{Tidy, TidyNode, TidyFinding, AreConditionsOf, findings_at, node_with_key, has_branch, has_last, has_first, is_refuted_there, names_of_tuple}
 use Rattle.meaning.proofs.Members.{contains_member}

@@ -1,46 +1,21 @@
 -- Two tidy cases of one bundle have the same keys in the same order, and nodes with one key are there at the same valid worlds, and then are one node of the product.
-use Rattle.std.proofs.Common.{◌≡◌, ◌≢◌, ℕ, zero, suc, List, [], ◌∷◌, map, length, Bool, true, false, Some, None, Option, refl, sym, ap, ◌∙◌, subst, arith, ◌⊎◌, inl, inr}
-use Rattle.std.specs.Prelude.{IsTrue, Contains}
+use Rattle.std.proofs.Common.{◌≡◌, ℕ, zero, suc, List, [], ◌∷◌, map, length, Bool, true, Some, refl, sym, ap, ◌∙◌, subst, arith, inl, inr}
+use Rattle.std.specs.Prelude.{IsTrue}
 use Rattle.std.specs.List.{slice_get}
 use Rattle.meaning.specs.Features.{is_valid}
-use Rattle.meaning.specs.Cases.{Node}
 use Rattle.meaning.specs.CaseFiles.{CaseDocument, CaseNode, holds, node_at_world}
 use Rattle.meaning.specs.Derivation.{Bundle, case_at}
 use Rattle.meaning.specs.Tidy.{Tidy, ValidWorld, AreConditionsOf, Ascend, possible_keys}
+use Rattle.meaning.proofs.SeenLists.{seen_alike}
 use Rattle.meaning.proofs.CutTrees.{Each}
 use Rattle.meaning.proofs.Members.{Member, member_mapped, mapped_member, member_of_contains, contains_member, member_at, each_from_members}
-use Rattle.meaning.proofs.MappedLists.{map_of_map}
 use Rattle.meaning.proofs.EqualityTests.{none_is_some}
-use Rattle.meaning.proofs.PairedLists.{Paired, paired_by_place}
-use Rattle.meaning.proofs.LikeDocuments.{EntryLike, paired_with}
-use Rattle.meaning.proofs.OnceLists.{HasAllOf, among_same, ascending_same, SeenAlike, seen_alike, paired_for_all}
+use Rattle.meaning.proofs.PairedLists.{Paired, paired_by_place, paired_for_all, paired_with, paired_of_maps, paired_two}
+use Rattle.meaning.proofs.LikeDocuments.{EntryLike}
+use Rattle.meaning.proofs.OnceLists.{HasAllOf, among_same, ascending_same}
 use Rattle.meaning.proofs.TidySights.{HasProperNames, Sight, sight_in_case, sight_key, sight_of_node, keys_differ, nodes_at}
 
--- ---- lists side by side
-
-pub paired_of_maps : {A B C : Type 0} (f : A → C) (g : B → C) (xs : List A) (ys : List B) → map f xs ≡ map g ys → Paired (λ x y. f x ≡ g y) xs ys
-paired_of_maps f g [] [] e = tt
-paired_of_maps f g [] (y ∷ ys) e = elim (no_item e) [ ]
-  where
-    no_item : [] ≡ g y ∷ map g ys → ⊥
-    no_item h = cc
-paired_of_maps f g (x ∷ xs) [] e = elim (no_item e) [ ]
-  where
-    no_item : f x ∷ map f xs ≡ [] → ⊥
-    no_item h = cc
-paired_of_maps f g (x ∷ xs) (y ∷ ys) e = (first e, paired_of_maps f g xs ys (rest e))
-  where
-    first : f x ∷ map f xs ≡ g y ∷ map g ys → f x ≡ g y
-    first h = cc
-
-    rest : f x ∷ map f xs ≡ g y ∷ map g ys → map f xs ≡ map g ys
-    rest h = cc
-
-pub paired_two : {A B : Type 0} (R S : A → B → Type 0) (xs : List A) (ys : List B) → Paired R xs ys → Paired S xs ys → Paired (λ x y. R x y × S x y) xs ys
-paired_two R S [] [] h g = tt
-paired_two R S [] (y ∷ ys) h g = elim h [ ]
-paired_two R S (x ∷ xs) [] h g = elim h [ ]
-paired_two R S (x ∷ xs) (y ∷ ys) h g = ((h.0, g.0), paired_two R S xs ys h.1 g.1)
+-- ---- members
 
 pub each_own : {A : Type 0} (xs : List A) → Each (λ x. Member x xs) xs
 each_own xs = each_from_members (λ x. Member x xs) xs (λ x m. m)

@@ -1,24 +1,23 @@
 -- Two tidy cases of one bundle have the same relations, under conditions that hold at the same valid worlds.
-use Rattle.std.proofs.Common.{◌≡◌, ◌≢◌, ℕ, zero, suc, ◌<◌, List, [], ◌∷◌, map, length, Bool, true, false, ◌&&◌, Some, None, Option, refl, sym, ap, ◌∙◌, subst, arith}
-use Rattle.std.specs.Prelude.{IsTrue, Contains, option_map, unwrap_or, pred}
+use Rattle.std.proofs.Common.{◌≡◌, ℕ, zero, suc, ◌<◌, List, [], ◌∷◌, map, length, Bool, true, false, ◌&&◌, Some, None, Option, refl, sym, ap, ◌∙◌}
+use Rattle.std.specs.Prelude.{IsTrue, option_map, unwrap_or, pred}
 use Rattle.std.specs.List.{slice_get}
 use Rattle.std.proofs.lemmas.List.{length-map}
 use Rattle.std.proofs.lemmas.Option.{slice_get-map}
 use Rattle.meaning.specs.Texts.{numbers_from}
-use Rattle.meaning.specs.Features.{is_valid, feature_names}
+use Rattle.meaning.specs.Features.{is_valid}
 use Rattle.meaning.specs.CaseFiles.{CaseDocument, CaseNode, CaseRelation, holds, is_there, relation_at_world}
 use Rattle.meaning.specs.Derivation.{Bundle}
-use Rattle.meaning.specs.Tidy.{Tidy, ValidWorld, key_of, key_above, presence_of}
-use Rattle.meaning.proofs.CutTrees.{Each}
+use Rattle.meaning.specs.Tidy.{Tidy, ValidWorld, key_above}
+use Rattle.meaning.proofs.SeenLists.{kept_alike}
 use Rattle.meaning.proofs.ValidWorlds.{valid_is_long}
 use Rattle.meaning.proofs.Members.{Member, member_each, contains_member, member_at, one_place}
 use Rattle.meaning.proofs.ReducedTables.{slice_there}
 use Rattle.meaning.proofs.ReadCases.{IsRead, ends_are_there}
-use Rattle.meaning.proofs.PairedLists.{Paired, paired_length, paired_place, paired_by}
-use Rattle.meaning.proofs.LikeDocuments.{RelationLike, paired_with}
-use Rattle.meaning.proofs.OnceLists.{kept_alike, paired_for_all}
+use Rattle.meaning.proofs.PairedLists.{Paired, paired_length, paired_place, paired_by, paired_for_all, paired_with, paired_of_maps, paired_two}
+use Rattle.meaning.proofs.LikeDocuments.{RelationLike}
 use Rattle.meaning.proofs.TidySights.{HasProperNames, Sight, sight_of_node, sight_seen, keys_differ, upper_holds, relations_at}
-use Rattle.meaning.proofs.TwinNodes.{AgreeWhereValid, Twins, twins, keys_same, paired_of_maps, paired_two, each_own}
+use Rattle.meaning.proofs.TwinNodes.{AgreeWhereValid, Twins, twins, keys_same, each_own}
 
 -- ---- the node of a number
 

@@ -1,12 +1,10 @@
 -- Two tidy cases of one bundle tell the same systems in the same order, and their findings the same checks.
-use Rattle.std.proofs.Common.{◌≡◌, ◌≢◌, ℕ, ◌<◌, List, [], ◌∷◌, map, length, Bool, true, false, not, Some, None, Option, refl, sym, ap, ◌∙◌, subst, arith}
-use Rattle.std.specs.Prelude.{IsTrue, option_map}
+use Rattle.std.proofs.Common.{◌≡◌, ◌≢◌, ℕ, List, map, length, not, Some, None, Option, refl, sym, ap, ◌∙◌, subst, arith}
+use Rattle.std.specs.Prelude.{option_map}
 use Rattle.std.specs.List.{slice_get}
 use Rattle.std.proofs.lemmas.List.{length-map}
 use Rattle.std.proofs.lemmas.Option.{slice_get-map, slice_get_within}
-use Rattle.meaning.specs.Features.{is_valid}
 use Rattle.meaning.specs.Models.{System}
-use Rattle.meaning.specs.Templates.{Check}
 use Rattle.meaning.specs.CaseFiles.{CaseDocument, CaseNode, CaseSystem, Finding, holds, node_at_world}
 use Rattle.meaning.specs.Derivation.{Bundle}
 use Rattle.meaning.specs.Evidence.{system_number}
@@ -14,12 +12,12 @@ use Rattle.meaning.specs.Tidy.{Tidy, TidySystem, IsChecked, element_of_check, na
 use Rattle.meaning.proofs.Members.{Member, Pairwise, mapped_member, member_of_contains, contains_member, member_at, member_mapped, one_place}
 use Rattle.meaning.proofs.EqualityTests.{none_is_some, some_is}
 use Rattle.meaning.proofs.ReducedTables.{slice_there}
-use Rattle.meaning.proofs.PairedLists.{Paired, paired_by_place, paired_place}
-use Rattle.meaning.proofs.LikeDocuments.{SystemLike, paired_with}
+use Rattle.meaning.proofs.PairedLists.{Paired, paired_by_place, paired_place, paired_with, paired_of_maps}
+use Rattle.meaning.proofs.LikeDocuments.{SystemLike}
 use Rattle.meaning.proofs.OnceLists.{HasAllOf, among_same, among_pairs, one_of_name}
 use Rattle.meaning.proofs.TidySights.{HasProperNames, Sight, sight_of_node, sight_seen}
-use Rattle.meaning.proofs.TwinNodes.{AgreeWhereValid, Twins, twins, paired_of_maps, each_own, place_of_member}
-use Rattle.meaning.proofs.ToldChecks.{Told, told_same, OfElement, of_element, SystemAt, system_at, case_check, Checked, finding_checked}
+use Rattle.meaning.proofs.TwinNodes.{AgreeWhereValid, Twins, twins, each_own, place_of_member}
+use Rattle.meaning.proofs.ToldChecks.{Told, told_same, OfElement, of_element, SystemAt, system_at, Checked, finding_checked}
 
 -- ---- findings of twins
 

@@ -10,7 +10,7 @@ use Rattle.meaning.specs.Templates.{Template, TemplateNode, TemplateKind, Plain,
 use Rattle.meaning.specs.Tidy.{key_above}
 use Rattle.meaning.proofs.CutTrees.{Each}
 use Rattle.meaning.proofs.EachMembers.{each_filtered, each_by}
-use Rattle.meaning.proofs.Lists.{each_append, each_of_all}
+use Rattle.meaning.proofs.Lists.{each_append}
 use Rattle.meaning.proofs.Members.{Member, member_front, member_behind, member_mapped, each_from_members, member_each}
 use Rattle.meaning.proofs.Pairs.{each_of_map, each_of_flat}
 use Rattle.meaning.proofs.KeySteps.{IsSmall}

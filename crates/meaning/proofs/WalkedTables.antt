@@ -6,7 +6,8 @@ use Rattle.std.proofs.lemmas.Option.{slice_get_within}
 use Rattle.meaning.specs.Texts.{numbers_from}
 use Rattle.meaning.specs.CaseFiles.{Row}
 use Rattle.meaning.specs.TableOrder.{row_of_id, row_ahead, left_after, left_after_all}
-use Rattle.meaning.proofs.TableValues.{value_end, same_number, equal_numbers}
+use Rattle.meaning.proofs.TableValues.{value_end}
+use Rattle.meaning.proofs.EqualityTests.{same_number, equal_numbers}
 use Rattle.meaning.proofs.ReducedTables.{IsReduced, IsWithin, IsRow, Alike, end_or_row}
 use Rattle.meaning.proofs.CanonicalIdentifiers.{canonical, children_within, children_below, Matching, same_end, same_row, matching, row_same}
 use Rattle.meaning.proofs.EmptyLists.{same_truth}
