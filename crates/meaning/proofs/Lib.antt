@@ -28,5 +28,6 @@ pub mod NameTexts
 pub mod AbsentMembers
 pub mod LineNames
 pub mod CaseReadsBack
+pub mod CaseFaultsInOrder
 pub mod ProperNames
 pub mod NamePlaces
