@@ -7,6 +7,7 @@ use Rattle.std.proofs.lemmas.Bool.{true≢false}
 use Rattle.std.proofs.lemmas.Bool.Decides.{nat_tests}
 use Rattle.std.proofs.lemmas.List.{length-map, map-append, get_or-map, take_more, drop_more, take_all, drop_all}
 use Rattle.std.proofs.lemmas.Option.{slice_get-map, slice_get-get_or}
+use Rattle.meaning.specs.Counts.{capped}
 use Rattle.meaning.specs.Texts.{first_of_list, numbered}
 use Rattle.meaning.specs.Documents.{Document, list_at}
 use Rattle.meaning.specs.CaseFiles.{Row, CaseDocument}
@@ -19,7 +20,7 @@ use Rattle.node_pool.proofs.Reduced.{top_of-constant, top_of-inner, IsReduced-pu
 use Rattle.conditions.specs.declared.reading.TableStop.{TableStop}
 use Rattle.conditions.specs.declared.reading.TableStop.TheVariants as table
 use Rattle.conditions.specs.Tables.{TableRow, node_of, nodes_of, case_row, case_rows}
-use Rattle.conditions.specs.TableRows.{Rule, Triple, Order, Difference, Newness, document_fits, bad_rows, first_bad, is_row, is_ordered, stands_before, rule_of_row, broken_rule, at_row, first_break, IsFirstFault, AreRead, TellsBroken, TellsOf}
+use Rattle.conditions.specs.TableRows.{Rule, Triple, Order, Difference, Newness, document_fits, bad_rows, first_bad, is_row, is_ordered, stands_before, rule_of_row, broken_rule, at_row, first_break, IsFirstFault, IsToldFault, AreRead, TellsBroken, TellsOf}
 
 -- ---- rows in the words of the definitions
 
@@ -383,25 +384,30 @@ told_rule : (o : Option Rule) (k number : ℕ) (rule : Rule) → option_map (at_
 told_rule None k number rule is = absurd cc
 told_rule (Some x) k number rule is = let p = same_pair is in (p.0, ap Some p.1)
 
-fault_told : (features : ℕ) (docs : List Doc) (i : ℕ) (lines : List TableRow) (x : Doc) (number : ℕ) (rule : Rule) → i < length docs → x ≡ get_or docs i x → IsReading features docs i lines
-    → option_map (at_row (length lines)) (broken_rule features (case_rows lines) (length lines, document x)) ≡ Some (at_row number rule) → IsFirstFault features (documents docs) number rule
-fault_told features docs i lines x number rule within at reading told =
-    let p = told_rule _ (length lines) number rule told in
+fault_told : (features : ℕ) (docs : List Doc) (i : ℕ) (lines : List TableRow) (x : Doc) (told : ℕ) (rule : Rule) → i < length docs → x ≡ get_or docs i x → IsReading features docs i lines
+    → option_map (at_row (capped (length lines))) (broken_rule features (case_rows lines) (length lines, document x)) ≡ Some (at_row told rule) → IsToldFault features (documents docs) told rule
+fault_told features docs i lines x told rule within at reading is =
+    let p = told_rule _ (capped (length lines)) told rule is in
     let long : length (case_rows lines) ≡ length lines = length-map lines case_row in
     let here : broken_rule features (case_rows lines) (length (case_rows lines), document x) ≡ Some rule = rw long p.1 in
-    IsFirstFault-found features (documents docs) number rule
-    (reading.ahead
-    ∙ ap (first_break features (case_rows lines)) (next_ahead docs i x within at)
-    ∙ break_here features (case_rows lines) (document x) (documents (drop (i + 1) docs)) rule here
-    ∙ ap (λ (n : ℕ). Some (at_row n rule)) (long ∙ p.0))
+    record {
+      number = length lines;
+      fault =
+          IsFirstFault-found features (documents docs) (length lines) rule
+          (reading.ahead
+          ∙ ap (first_break features (case_rows lines)) (next_ahead docs i x within at)
+          ∙ break_here features (case_rows lines) (document x) (documents (drop (i + 1) docs)) rule here
+          ∙ ap (λ (n : ℕ). Some (at_row n rule)) long);
+      is = sym p.0;
+    }
 
 pub TellsOf-first : (features : ℕ) (docs : List Doc) (i : ℕ) (lines : List TableRow) (x : Doc) (stop : TableStop) → i < length docs → x ≡ get_or docs i x → IsReading features docs i lines
-    → TellsBroken (option_map (at_row (length lines)) (broken_rule features (case_rows lines) (length lines, document x))) stop → TellsOf features (documents docs) stop
-TellsOf-first features docs i lines x (table.NotTriple number) within at reading told = fault_told features docs i lines x number Triple within at reading told
-TellsOf-first features docs i lines x (table.NotOrdered number) within at reading told = fault_told features docs i lines x number Order within at reading told
-TellsOf-first features docs i lines x (table.NotReduced number) within at reading told = fault_told features docs i lines x number Difference within at reading told
-TellsOf-first features docs i lines x (table.Repeated number) within at reading told = fault_told features docs i lines x number Newness within at reading told
-TellsOf-first features docs i lines x table.NoMemory within at reading told = tt
+    → TellsBroken (option_map (at_row (capped (length lines))) (broken_rule features (case_rows lines) (length lines, document x))) stop → TellsOf features (documents docs) stop
+TellsOf-first features docs i lines x (table.NotTriple told) within at reading is = fault_told features docs i lines x told Triple within at reading is
+TellsOf-first features docs i lines x (table.NotOrdered told) within at reading is = fault_told features docs i lines x told Order within at reading is
+TellsOf-first features docs i lines x (table.NotReduced told) within at reading is = fault_told features docs i lines x told Difference within at reading is
+TellsOf-first features docs i lines x (table.Repeated told) within at reading is = fault_told features docs i lines x told Newness within at reading is
+TellsOf-first features docs i lines x table.NoMemory within at reading is = tt
 
 -- ---- tables
 

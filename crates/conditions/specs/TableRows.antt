@@ -1,6 +1,7 @@
 -- Tables that are read from documents: which row breaks a rule first, and which rule.
 use Rattle.std.specs.Prelude.{◌≡◌, ℕ, ◌+◌, ◌⊎◌, List, [], ◌∷◌, ◌++◌, length, map, filter, take, Bool, not, ◌&&◌, ◌==◌, nat_lt, if◌then◌else◌, Option, Some, None, unwrap_or}
 use Rattle.std.specs.List.{list_any, slice_get}
+use Rattle.meaning.specs.Counts.{capped}
 use Rattle.meaning.specs.Texts.{numbered, first_of_list}
 use Rattle.meaning.specs.Documents.{Document, as_list}
 use Rattle.meaning.specs.CaseFiles.{Row}
@@ -104,16 +105,22 @@ pub record IsFirstFault (features : ℕ) (ds : List Document) (number : ℕ) (ru
   pub there : slice_get ds number ≡ Some item
   pub broken : broken_rule features (map row_of ds) (number, item) ≡ Some rule
 
+-- the same, of a row that is told as this number
+pub record IsToldFault (features : ℕ) (ds : List Document) (told : ℕ) (rule : Rule) : Type 0 where
+  pub number : ℕ
+  pub fault : IsFirstFault features ds number rule
+  pub is : told ≡ capped number
+
 abbrev pub TellsOf : ℕ → List Document → TableStop → Type 0
-TellsOf features ds (table.NotTriple number) = IsFirstFault features ds number Triple
-TellsOf features ds (table.NotOrdered number) = IsFirstFault features ds number Order
-TellsOf features ds (table.NotReduced number) = IsFirstFault features ds number Difference
-TellsOf features ds (table.Repeated number) = IsFirstFault features ds number Newness
+TellsOf features ds (table.NotTriple told) = IsToldFault features ds told Triple
+TellsOf features ds (table.NotOrdered told) = IsToldFault features ds told Order
+TellsOf features ds (table.NotReduced told) = IsToldFault features ds told Difference
+TellsOf features ds (table.Repeated told) = IsToldFault features ds told Newness
 TellsOf features ds table.NoMemory = Unit {0}
 
 -- the stop tells the first fault of the document as a table of so many features. A document that is no list has none of the rows, and is told as the first row's form
 abbrev pub Tells : ℕ → Document → TableStop → Type 0
-Tells features d (table.NotTriple number) = ((as_list d ≡ None) × (number ≡ 0)) ⊎ IsFirstFault features (row_documents d) number Triple
+Tells features d (table.NotTriple told) = ((as_list d ≡ None) × (told ≡ 0)) ⊎ IsToldFault features (row_documents d) told Triple
 Tells features d stop = TellsOf features (row_documents d) stop
 
 -- the rows are those of the documents, and no row breaks a rule

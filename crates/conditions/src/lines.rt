@@ -1,6 +1,6 @@
 //! Rows that were read, each once.
 
-ghost use Rattle.std.specs.Prelude.{◌≡◌, ◌+◌, ◌^◌, ◌<◌, [], ◌∷◌, ◌++◌, length, not, if◌then◌else◌, Some, None, option_map, option_and_then, slice_get, IsTrue, IfOk, IfErr, OnOk, ◌↔◌};
+ghost use Rattle.std.specs.Prelude.{◌≡◌, ◌+◌, ◌<◌, [], ◌∷◌, ◌++◌, length, not, if◌then◌else◌, Some, None, option_map, option_and_then, slice_get, IsTrue, IfOk, IfErr, OnOk, ◌↔◌};
 ghost use Rattle.std.specs.List.{list_any};
 ghost use Rattle.meaning.specs.Documents.{as_natural};
 ghost use Rattle.meaning.specs.CaseReading.{row_of, is_triple, variable_after, same_row};
@@ -118,11 +118,10 @@ impl Lines {
 
     /// Whether a row's children are earlier identifiers with later variables.
     fn is_ordered(&self, features: usize, row: (u32, u32, u32)) -> bool
-        requires { length self.now < 2 ^ 32 }
         ensures { result ≡ is_ordered features (case_rows self.now) (length self.now, case_row row) }
     {
         let (variable, low, high) = row;
-        let next = self.list().len() + 2;
+        let next = self.list().len().saturating_add(2);
         let variable = variable as usize;
         (low as usize) < next
             && (high as usize) < next
@@ -132,7 +131,6 @@ impl Lines {
 
     /// Adds the row that a document is behind the others, and answers the first rule that it breaks, if it breaks one.
     pub fn read(&mut self, features: usize, item: &Doc) -> Result<(), RowStop>
-        requires { length self.old < 2 ^ 32 }
         ensures fits { OnOk result (broken_rule features (case_rows self.old) (length self.old, document item.now) ≡ None) }
         ensures added { OnOk result (case_rows self.new ≡ case_rows self.old ++ row_of (document item.now) ∷ []) }
         ensures stop { IfErr result (λ stop. TellsRow stop (broken_rule features (case_rows self.old) (length self.old, document item.now))) }

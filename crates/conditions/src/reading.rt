@@ -2,6 +2,7 @@
 
 ghost use Rattle.std.specs.Prelude.{◌≡◌, ◌<◌, [], ◌∷◌, ◌++◌, length, None, IfOk, IfErr, OnOk, option_map};
 ghost use Rattle.std.specs.List.{All};
+ghost use Rattle.meaning.specs.Counts.{capped};
 ghost use Rattle.meaning.specs.CaseReading.{row_of};
 ghost use Rattle.doc_tree.specs.View.{document, documents};
 ghost use Rattle.conditions.specs.declared.reading.TableStop.TheVariants.{NoMemory};
@@ -15,7 +16,8 @@ use doc_tree::Doc;
 use node_pool::NoMemory;
 use std::alloc::Global;
 
-/// Why a document is no table: the first row that breaks a rule, with the first rule that it breaks, in this order.
+/// Why a document is no table: the first row that breaks a rule, with the first rule that it breaks, in this order. A row past 4,294,967,295 is
+/// told as that number.
 #[derive(Clone, Copy, Debug, PartialEq, Eq)]
 pub enum TableStop {
     /// No list of three whole numbers of which the first is a feature; or the document is no list, and this is 0.
@@ -37,6 +39,13 @@ impl From<NoMemory> for TableStop {
     }
 }
 
+/// A row's number as it is told.
+fn told(number: usize) -> u32
+    ensures { result ≡ capped number }
+{
+    number.min(4_294_967_295) as u32
+}
+
 /// The row with a number is not taken.
 fn stopped(stop: RowStop, number: u32) -> TableStop
     ensures { Stops stop number result }
@@ -54,11 +63,9 @@ fn stopped(stop: RowStop, number: u32) -> TableStop
 fn read_row(lines: &mut Lines, features: usize, item: &Doc) -> Result<(), TableStop>
     ensures fits { OnOk result (broken_rule features (case_rows lines.old) (length lines.old, document item.now) ≡ None) }
     ensures added { OnOk result (case_rows lines.new ≡ case_rows lines.old ++ row_of (document item.now) ∷ []) }
-    ensures stop { IfErr result (TellsBroken (option_map (at_row (length lines.old)) (broken_rule features (case_rows lines.old) (length lines.old, document item.now)))) }
+    ensures stop { IfErr result (TellsBroken (option_map (at_row (capped (length lines.old))) (broken_rule features (case_rows lines.old) (length lines.old, document item.now)))) }
 {
-    let Ok(number) = u32::try_from(lines.list().len()) else {
-        return Err(TableStop::NoMemory);
-    };
+    let number = told(lines.list().len());
     match lines.read(features, item) {
         Ok(()) => Ok(()),
         Err(stop) => Err(stopped(stop, number)),
@@ -107,9 +114,9 @@ pub fn read_table(alloc: Global, doc: &Doc, features: u16) -> Result<Table, Tabl
     Ok(Table::of(features, rows))
 }
 
-/// The first row that breaks a rule in a table of so many features.
+/// The first row that breaks a rule in a table of so many features. A row past 4,294,967,295 is told as that number.
 pub fn first_bad_row(alloc: Global, features: usize, items: &[Doc]) -> Result<Option<u32>, NoMemory>
-    ensures { IfOk result (λ bad. bad ≡ first_bad features (documents items.now)) }
+    ensures { IfOk result (λ bad. bad ≡ option_map capped (first_bad features (documents items.now))) }
 {
     match read_rows(alloc, features, items) {
         Ok(_) => Ok(None),

@@ -28,6 +28,7 @@ pub mod NameTexts
 pub mod AbsentMembers
 pub mod LineNames
 pub mod CaseReadsBack
+pub mod CaseFaultsInOrder
 pub mod ProperNames
 pub mod NamePlaces
 pub mod TableValues

@@ -16,6 +16,7 @@ pub mod Systems
 pub mod Cases
 pub mod CaseFiles
 pub mod CaseReading
+pub mod CaseFaultOrder
 pub mod CaseBytes
 pub mod Configurations
 pub mod Templates
