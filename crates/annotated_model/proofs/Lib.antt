@@ -16,6 +16,7 @@ pub mod OwnerLaws
 pub mod RulesKept
 pub mod Limits
 pub mod ModelLaws
+pub mod TextsRead
 pub mod ProperProducts
 pub mod WholeReads
 pub mod BundleReads

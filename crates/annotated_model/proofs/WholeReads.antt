@@ -17,10 +17,12 @@ use Rattle.annotated_model.specs.SystemRules.{behaviour_faults}
 use Rattle.annotated_model.specs.Owners.{owners_broken}
 use Rattle.annotated_model.specs.Known.{Knows}
 use Rattle.annotated_model.specs.ModelFacts.{KeepsRules}
+use Rattle.annotated_model.specs.ModelTexts.{ModelHasTexts}
 use Rattle.annotated_model.specs.Joined.{joined_view, CanJoin}
 use Rattle.annotated_model.proofs.Firsts.{first_in_front, first_behind}
 use Rattle.annotated_model.proofs.KnownLaws.{map_twice}
 use Rattle.annotated_model.proofs.OwnerLaws.{owner_faults_are}
+use Rattle.annotated_model.proofs.TextsRead.{texts_read}
 use Rattle.annotated_model.proofs.ModelLaws.{NoFaults, no_faults, keeps_rules, element_names_differ, owners_differ, owners_known, owned_in}
 
 abbrev model_with : List meaning.TypeDef → List meaning.LinkKind → List (List ℕ) → List meaning.Element → List meaning.Link → List meaning.System → meaning.Model
@@ -118,6 +120,7 @@ module _ (features : List (List ℕ)) (model : Document) where
               pub can_join : CanJoin known links systems owners
               can_join = record {
                 rules = subst KeepsRules (sym model_is) (keeps_rules features model passes);
+                texts = subst ModelHasTexts (sym model_is) (texts_read features model passes);
                 named = knows.element_names ∙ named ∙ map_twice (λ e. e.name) element_view known.elements;
                 owned = sym (map_twice (λ s. s.element) system_view systems) ∙ ap (map (λ s. s.element)) systems_are ∙ owned_in features model passes
                     ∙ ap (λ ns. map (meaning.number_in ns) (owners_in model)) (sym knows.element_names)

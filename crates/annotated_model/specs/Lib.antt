@@ -8,6 +8,7 @@ pub mod NewTexts
 pub mod Items
 pub mod Owners
 pub mod ModelFacts
+pub mod ModelTexts
 pub mod SystemPlaces
 pub mod Joined
 pub mod ExpressionCode

@@ -9,6 +9,7 @@ ghost use Rattle.meaning.specs.Models as meaning;
 ghost use Rattle.doc_tree.specs.View.{document};
 ghost use Rattle.annotated_model.specs.View.{type_view, kind_view, element_view, link_view, system_view};
 ghost use Rattle.annotated_model.specs.ModelFacts.{KindFits, ElementFits, LinkFits, SystemFits, KeepsRules};
+ghost use Rattle.annotated_model.specs.ModelTexts.{ModelHasTexts};
 ghost use Rattle.annotated_model.specs.SystemPlaces.{TellSystems};
 ghost use Rattle.annotated_model.specs.Joined.{joined_view, nothing, CanJoin};
 
@@ -38,6 +39,7 @@ impl std::marker::Model for Model {
     ghost use Rattle.meaning.specs.Models as meaning;
     ghost use Rattle.annotated_model.specs.View.{type_view, kind_view, element_view, link_view, system_view};
     ghost use Rattle.annotated_model.specs.ModelFacts.{KeepsRules};
+    ghost use Rattle.annotated_model.specs.ModelTexts.{ModelHasTexts};
     ghost use Rattle.annotated_model.specs.SystemPlaces.{TellSystems};
 
     ghost Value = { meaning.Model };
@@ -60,6 +62,14 @@ impl std::marker::Model for Model {
         (m.element_names ≡ map (λ e. e.name) m.elements)
         × TellSystems m.elements (map system_view m.systems)
         × KeepsRules (record {
+          types = map type_view m.types;
+          kinds = map kind_view m.kinds;
+          labels = m.labels;
+          elements = map element_view m.elements;
+          links = map link_view m.links;
+          systems = map system_view m.systems;
+        })
+        × ModelHasTexts (record {
           types = map type_view m.types;
           kinds = map kind_view m.kinds;
           labels = m.labels;
@@ -117,6 +127,7 @@ impl Model {
     pub fn types(&self) -> &[TypeDef]
         ensures types { map type_view result.now ≡ self.now.types }
         ensures rules { KeepsRules self.now }
+        ensures texts { ModelHasTexts self.now }
     {
         self.types.list()
     }

@@ -52,20 +52,11 @@ fn types_of(alloc: Global, variables: &[(Word, u16)]) -> Result<Row<u16>, NoMemo
     Ok(Row::of(types))
 }
 
-/// Whether the types and the link kinds have numbers of 16 bits.
-fn has_numbers(model: &Model) -> bool
-    ensures types { result ≡ true → length model.now.types ≤ 65536 }
-    ensures kinds { result ≡ true → length model.now.kinds ≤ 65536 }
-{
-    model.types().len() <= 65536 && model.kinds().len() <= 65536
-}
-
 impl Query {
     /// The query that a text is, over a model and the variables in scope with their types.
     ///
     /// The first fault of the text is the one that is told. A token's fault is `TooMany` where it is the 257th, the name of a fourth new
-    /// variable or the first token of a 17th constraint, else `Syntax`, else `UnknownName`, else `Repeated`. A model that was read has at most
-    /// 256 types and kinds; over one with more than 65,536 of them the answer is `NoMemory`.
+    /// variable or the first token of a 17th constraint, else `Syntax`, else `UnknownName`, else `Repeated`.
     pub fn parse(
         alloc: Global,
         text: &str,
@@ -93,9 +84,8 @@ impl Query {
         ensures query { IfOk result (λ read. query_of model.now scope.now text.now ≡ Some (read.0, query read.1)) }
         ensures fault { IfErr result (λ stop. Tells stop (query_fault model.now scope.now text.now)) }
     {
-        if !has_numbers(model) {
-            return Err(QueryStop::NoMemory);
-        }
+        // A model has at most 256 types and link kinds, so that each has a number of 16 bits.
+        let _types = model.types();
         let tokens = tokens_of(alloc, text)?;
         let (new, next) = parse_new(alloc, model, scope, &tokens)?;
         let constraints = parse_conditions(alloc, model, scope, &new, &tokens, next)?;

@@ -87,9 +87,13 @@ module _ (m : Model) (templates : List (List ℕ)) (parameters : Scope) (ids : L
 -- the template of a document, node by node
 pub template_is : (m : Model) (templates : List (List ℕ)) (d : Document)
     → template_of m templates d
-    ≡ record { name = text_at (codes "name") d; nodes = nodes_told m templates (parameters_in m d) (map id_in (list_at (codes "nodes") d)) [] (list_at (codes "nodes") d) }
+    ≡ record {
+      name = text_at (codes "name") d;
+      parameters = parameters_in m d;
+      nodes = nodes_told m templates (parameters_in m d) (map id_in (list_at (codes "nodes") d)) [] (list_at (codes "nodes") d);
+    }
 template_is m templates d =
-    ap (λ ns. record { name = text_at (codes "name") d; nodes = ns })
+    ap (λ ns. record { name = text_at (codes "name") d; parameters = parameters_in m d; nodes = ns })
     (all_nodes m templates (parameters_in m d) (map id_in (list_at (codes "nodes") d)) [] (list_at (codes "nodes") d))
 
 -- ---- the scope at a number

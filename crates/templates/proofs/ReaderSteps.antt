@@ -118,6 +118,7 @@ few_new (Some p) few = few
 
 -- a node whose parts are those of the document
 pub node_is : (m : Model) (names : List (List ℕ)) (above : Option ℕ) (scope : Scope) (d : Document) (n : TNode)
+    → n.id ≡ text_at (codes "id") d
     → kind_view n.args n.kind ≡ kind_of names scope d
     → n.under ≡ above
     → map piece_view n.text ≡ parts_of m scope (text_at (codes "text") d)
@@ -126,4 +127,4 @@ pub node_is : (m : Model) (names : List (List ℕ)) (above : Option ℕ) (scope 
     → option_map check_view n.check ≡ option_and_then (check_of m scope) (member_of (codes "check") d)
     → n.undeveloped ≡ truth_at (codes "undeveloped") d
     → node_view n ≡ (placed m names above scope d).node
-node_is m names above scope d n kind under words each guard check undeveloped = rw (kind, under, words, each, guard, check, undeveloped) refl
+node_is m names above scope d n id kind under words each guard check undeveloped = rw (id, kind, under, words, each, guard, check, undeveloped) refl

@@ -7,7 +7,7 @@ use Rattle.std.proofs.lemmas.Option.{slice_get-map}
 use Rattle.meaning.specs.Documents.{Document, list_at}
 use Rattle.meaning.specs.Models.{Model}
 use Rattle.meaning.specs.QueryTexts.{Scope}
-use Rattle.meaning.specs.Templates.{TemplateNode}
+use Rattle.meaning.specs.Templates.{TemplateNode, Template}
 use Rattle.meaning.specs.TemplateTexts.{templates_of, template_of}
 use Rattle.meaning.specs.BundlePlaces.{Templates, Params, Nodes, BundleFault, requires, may_have, is_list_value, faults_at, name_in}
 use Rattle.meaning.specs.ModelRules.{faults_in_item}
@@ -58,10 +58,12 @@ module _ (m : Model) (bundle : Document) where
   no_fault none none_there none_below =
       sym faults_are ∙ (ap (λ fs. fs ++ parameters ++ nodes) none ∙ (ap (λ fs. fs ++ nodes) none_there ∙ none_below))
 
--- what is joined of the same nodes is the same
-pub joined_alike : {E : Type 0} (ds : List Document) (result : Result (List code.Template) E) (nss mss : List (List TemplateNode)) → nss ≡ mss
-    → IfOk result (λ row. map template_view row ≡ joined_views ds nss) → IfOk result (λ row. map template_view row ≡ joined_views ds mss)
-joined_alike ds result nss mss same is = subst (λ xs. IfOk result (λ row. map template_view row ≡ joined_views ds xs)) same is
+-- what is joined of the same parameters and nodes is the same
+pub joined_alike : {E : Type 0} (ds : List Document) (result : Result (List code.Template) E) (pss qss : List Scope) (nss mss : List (List TemplateNode)) → pss ≡ qss → nss ≡ mss
+    → IfOk result (λ row. map template_view row ≡ joined_views ds pss nss) → IfOk result (λ row. map template_view row ≡ joined_views ds qss mss)
+joined_alike ds result pss qss nss mss same same_nodes is =
+    subst (λ xs. IfOk result (λ row. map template_view row ≡ joined_views ds qss xs)) same_nodes
+    (subst (λ xs. IfOk result (λ row. map template_view row ≡ joined_views ds xs nss)) same is)
 
 -- ---- the nodes of one template among all
 
@@ -142,14 +144,27 @@ module _ (m : Model) (docs : List Doc) (rows : List Scope) (values : rows ≡ ma
 
 -- ---- values
 
-joined_are : (m : Model) (names : List (List ℕ)) (ds : List Document) → joined_views ds (map (nodes_in m names) ds) ≡ map (template_of m names) ds
+joined_are : (m : Model) (names : List (List ℕ)) (ds : List Document) → joined_views ds (map (parameters_in m) ds) (map (nodes_in m names) ds) ≡ map (template_of m names) ds
 joined_are m names [] = refl
 joined_are m names (d ∷ ds) =
-    ap (λ t. t ∷ joined_views ds (map (nodes_in m names) ds)) (sym (template_is m names d)) ∙ ap (λ ts. template_of m names d ∷ ts) (joined_are m names ds)
+    ap (λ t. t ∷ joined_views ds (map (parameters_in m) ds) (map (nodes_in m names) ds)) (sym (template_is m names d))
+    ∙ ap (λ ts. template_of m names d ∷ ts) (joined_are m names ds)
 
 pub templates_are_read : (m : Model) (bundle : Document) (names : List (List ℕ)) (nss : List (List TemplateNode)) → names ≡ map name_in (templates_in bundle)
-    → nss ≡ map (nodes_in m names) (templates_in bundle) → joined_views (templates_in bundle) nss ≡ templates_of m bundle
+    → nss ≡ map (nodes_in m names) (templates_in bundle)
+    → joined_views (templates_in bundle) (map (parameters_in m) (templates_in bundle)) nss ≡ templates_of m bundle
 unfolding templates_of
 templates_are_read m bundle names nss named are =
-    ap (joined_views (templates_in bundle)) are
+    ap (joined_views (templates_in bundle) (map (parameters_in m) (templates_in bundle))) are
     ∙ (joined_are m names (templates_in bundle) ∙ ap (λ ns. map (template_of m ns) (templates_in bundle)) named)
+
+-- what is joined of the documents of a bundle, where no part of them has a fault
+pub whole_is_read : (m : Model) (bundle : Document) (names : List (List ℕ)) (ds : List Document) (views : List Template) → ds ≡ templates_in bundle
+    → names ≡ map name_in (templates_in bundle) → views ≡ joined_views ds (map (parameters_in m) ds) (map (nodes_in m names) ds)
+    → list_broken bundle ≡ [] → all_parameters_broken m 0 ds ≡ [] → all_nodes_broken m [] 0 0 ds ≡ []
+    → (views ≡ templates_of m bundle) × (template_faults m bundle ≡ [])
+whole_is_read m bundle names ds views docs named are none parameters nodes = (
+  are ∙ ap (λ xs. joined_views xs (map (parameters_in m) xs) (map (nodes_in m names) xs)) docs
+      ∙ templates_are_read m bundle names (map (nodes_in m names) (templates_in bundle)) named refl,
+  no_fault m bundle none (subst (λ xs. all_parameters_broken m 0 xs ≡ []) docs parameters) (subst (λ xs. all_nodes_broken m [] 0 0 xs ≡ []) docs nodes),
+)

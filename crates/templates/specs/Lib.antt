@@ -15,3 +15,4 @@ pub mod ScopeReads
 pub mod Seen
 pub mod Wholes
 pub mod PathCode
+pub mod ReadOver

@@ -46,6 +46,7 @@ pub record PartsFit (m : Model) (scope : Scope) (d : Document) (parts : NodePart
   pub queries : AreRead m scope d parts.queries
   pub text : map piece_view parts.texts.text ≡ parts_of m scope (text_at (codes "text") d)
   pub args : parts.texts.args ≡ arguments_in scope d
+  pub id : parts.texts.id ≡ id_in d
 
 -- the nodes of a reader, and these variables in scope
 abbrev pub sees : Reader → Scope → NodeContext

@@ -33,6 +33,7 @@ kind_view args (kind.Uses t) = meaning.Uses t args
 
 abbrev pub node_view : TNode → meaning.TemplateNode
 node_view n = record {
+  id = n.id;
   kind = kind_view n.args n.kind;
   above = n.under;
   words = map piece_view n.text;
@@ -43,4 +44,4 @@ node_view n = record {
 }
 
 abbrev pub template_view : Template → meaning.Template
-template_view t = record { name = t.name; nodes = map node_view t.nodes }
+template_view t = record { name = t.name; parameters = t.params; nodes = map node_view t.nodes }

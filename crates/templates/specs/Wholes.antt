@@ -2,6 +2,7 @@
 use Rattle.std.specs.Prelude.{ℕ, List, [], ◌∷◌, map, codes}
 use Rattle.meaning.specs.Documents.{Document, list_at}
 use Rattle.meaning.specs.Models.{Model}
+use Rattle.meaning.specs.QueryTexts.{Scope}
 use Rattle.meaning.specs.Templates.{TemplateNode, Template}
 use Rattle.meaning.specs.BundlePlaces.{name_in}
 use Rattle.meaning.specs.TemplateRules.{id_in}
@@ -13,7 +14,7 @@ abbrev pub nodes_in : Model → List (List ℕ) → Document → List TemplateNo
 nodes_in m templates d =
     nodes_told m templates (parameters_in m d) (map id_in (list_at (codes "nodes") d)) [] (list_at (codes "nodes") d)
 
--- templates with these names and nodes
-abbrev pub joined_views : List Document → List (List TemplateNode) → List Template
-joined_views (d ∷ ds) (ns ∷ nss) = record { name = name_in d; nodes = ns } ∷ joined_views ds nss
-joined_views _ _ = []
+-- templates with these names, parameters and nodes
+abbrev pub joined_views : List Document → List Scope → List (List TemplateNode) → List Template
+joined_views (d ∷ ds) (ps ∷ pss) (ns ∷ nss) = record { name = name_in d; parameters = ps; nodes = ns } ∷ joined_views ds pss nss
+joined_views _ _ _ = []

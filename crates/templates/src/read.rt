@@ -12,6 +12,7 @@ ghost use Rattle.templates.specs.View.{node_view, template_view};
 ghost use Rattle.templates.specs.ListRules.{parameters_in, types_named, types_known, all_parameters_broken};
 ghost use Rattle.templates.specs.NodeRules.{around, template_nodes_broken, all_nodes_broken};
 ghost use Rattle.templates.specs.Wholes.{nodes_in, joined_views};
+ghost use Rattle.templates.specs.ReadOver.{AreRead};
 ghost use Rattle.templates.specs.declared.fault.TemplateStop.TheVariants.{NoMemory};
 
 use crate::data::{TNode, Template};
@@ -25,7 +26,7 @@ use cond_text::Names;
 use doc_tree::{Doc, Part, Row, Word};
 use std::alloc::Global;
 
-/// The templates of a bundle, in order. A number of a template is its place, from 0.
+/// The templates of a bundle, in order. A number of a template is its place, from 0. They break no rule over the model that they were read over.
 #[derive(Drop)]
 pub struct Templates {
     list: Row<Template>,
@@ -35,6 +36,7 @@ impl std::marker::Model for Templates {
     ghost use Rattle.std.specs.Prelude.{List, map};
     ghost use Rattle.meaning.specs.Templates as meaning;
     ghost use Rattle.templates.specs.View.{template_view};
+    ghost use Rattle.templates.specs.ReadOver.{AreRead};
 
     ghost Value = { List meaning.Template };
 
@@ -45,6 +47,8 @@ impl std::marker::Model for Templates {
     ghost coded = { Prim.hlevel (codes, coded_expression, coded_path) };
 
     ghost view = { λ t. map template_view t.list };
+
+    ghost invariant = { λ t. AreRead (map template_view t.list) };
 }
 
 /// The parameters of the template with this number.
@@ -144,7 +148,7 @@ fn joined(
 ) -> Result<Row<Template>, TemplateStop>
     requires parameters { length parameters.items ≡ length docs.now }
     requires nodes { length nodes.items ≡ length docs.now }
-    ensures templates { IfOk result (λ row. map template_view row ≡ joined_views (documents docs.now) (map (map node_view) nodes.items)) }
+    ensures templates { IfOk result (λ row. map template_view row ≡ joined_views (documents docs.now) parameters.items (map (map node_view) nodes.items)) }
     ensures stop { IfErr result (λ stop. stop ≡ NoMemory) }
 {
     let mut all = Vec::new(alloc);
@@ -177,7 +181,7 @@ fn read_list(
     requires types { length model.now.types ≤ 65536 }
     requires within { length docs.now ≤ 256 }
     ensures templates { IfOk result (λ row. map template_view row
-        ≡ joined_views (documents docs.now) (map (nodes_in model.now names.now) (documents docs.now))) }
+        ≡ joined_views (documents docs.now) (map (parameters_in model.now) (documents docs.now)) (map (nodes_in model.now names.now) (documents docs.now))) }
     ensures parameters { IfOk result (λ _. all_parameters_broken model.now 0 (documents docs.now) ≡ []) }
     ensures nodes { IfOk result (λ _. all_nodes_broken model.now [] 0 0 (documents docs.now) ≡ []) }
     ensures fault { IfErr result (IsFirst (all_parameters_broken model.now 0 (documents docs.now) ++ all_nodes_broken model.now [] 0 0 (documents docs.now))) }
@@ -187,25 +191,17 @@ fn read_list(
     joined(alloc, docs, parameters, nodes)
 }
 
-/// Whether the types have numbers of 16 bits.
-fn has_numbers(model: &Model) -> bool
-    ensures { result ≡ true → length model.now.types ≤ 65536 }
-{
-    model.types().len() <= 65536
-}
-
 impl Templates {
     /// The templates that a bundle holds over its model.
     ///
     /// What is told of templates with a fault is the first one: of the templates themselves, then of their parameters, then of their nodes, each
-    /// template by template. A model that was read has at most 256 types; over one with more than 65,536 of them the answer is `NoMemory`.
+    /// template by template.
     pub fn read(alloc: Global, doc: &Doc, model: &Model) -> Result<Templates, TemplateStop>
         ensures ok { IfOk result (λ t. (t ≡ templates_of model.now (document doc.now)) × (template_faults model.now (document doc.now) ≡ [])) }
         ensures fault { IfErr result (IsFirst (template_faults model.now (document doc.now))) }
     {
-        if !has_numbers(model) {
-            return Err(TemplateStop::NoMemory);
-        }
+        // A model has at most 256 types, so that each has a number of 16 bits.
+        let _types = model.types();
         let names = read_names(alloc, doc)?;
         let docs = doc.list_at("templates");
         let list = read_list(alloc, model, docs, &names)?;
@@ -214,7 +210,8 @@ impl Templates {
 
     /// The templates.
     pub fn list(&self) -> &[Template]
-        ensures { map template_view result.now ≡ self.now }
+        ensures templates { map template_view result.now ≡ self.now }
+        ensures read { AreRead self.now }
     {
         self.list.list()
     }

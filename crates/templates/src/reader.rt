@@ -209,6 +209,7 @@ impl Reader<'_> {
         requires texts { rules.node_texts_fit (document node.now) ≡ true }
         ensures text { IfOk result (λ t. map piece_view t.text ≡ parts_of self.now.model.now scope.now (text_at (codes "text") (document node.now))) }
         ensures args { IfOk result (λ t. t.args ≡ arguments_in scope.now (document node.now)) }
+        ensures id { IfOk result (λ t. t.id ≡ rules.id_in (document node.now)) }
         ensures none { IfOk result (λ _. texts_broken self.now scope.now (document node.now) ≡ []) }
         ensures fault { IfErr result (IsFirst (faults_here place (texts_broken self.now scope.now (document node.now)))) }
     {

@@ -86,7 +86,6 @@ fn relations<W: Worlds>(
 }
 
 /// Asks once where elements and links are there, and where walks lead.
-/// Elements have numbers below 65,536; a model with more is answered by want of memory.
 pub fn prepare<'a, W: Worlds>(
     alloc: Global,
     model: &'a Model,
@@ -102,9 +101,8 @@ pub fn prepare<'a, W: Worlds>(
     ensures bound { IfOk result (λ s. s.bound.now ≡ bound.now) }
     ensures stops { IfErr result (Stops (W.algebra w.old) (W.algebra w.new)) }
 {
-    if model.elements().len() > 65_535 {
-        return Err(QStop::NoMemory);
-    }
+    // A model has at most 2,048 elements, so that each has a number of 16 bits.
+    let _types = model.types();
     let elements = elements_when(alloc, model, w)?;
     let edges = links_when(alloc, model, &elements, w)?;
     let relations = relations(alloc, model, &edges, query.constraints.list(), w)?;

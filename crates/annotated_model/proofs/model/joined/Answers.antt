@@ -2,6 +2,7 @@ use Rattle.std.proofs.Common.{◌≡◌, sym, ap, ◌∙◌, subst, map}
 use Rattle.meaning.specs.Texts.{place_of}
 use Rattle.annotated_model.specs.View.{type_view, kind_view, element_view, link_view, system_view}
 use Rattle.annotated_model.specs.ModelFacts.{KeepsRules}
+use Rattle.annotated_model.specs.ModelTexts.{ModelHasTexts}
 use Rattle.annotated_model.proofs.KnownLaws.{map_twice}
 use Rattle.annotated_model.proofs.SystemPlacesLaw.{tell_systems}
 use Rattle.annotated_model.proofs.model.joined.Goals as goal
@@ -33,4 +34,12 @@ invariant_of-result c =
         links = map link_view c.args.links;
         systems = map system_view c.args.systems;
       }) (sym views) c.requires.rules,
+      subst (λ es. ModelHasTexts record {
+        types = map type_view c.args.known.types;
+        kinds = map kind_view c.args.known.kinds;
+        labels = c.args.known.labels;
+        elements = es;
+        links = map link_view c.args.links;
+        systems = map system_view c.args.systems;
+      }) (sym views) c.requires.texts,
     )

@@ -2,7 +2,7 @@ use Rattle.std.proofs.Common.{◌≡◌, ◌++◌, [], map}
 use Rattle.doc_tree.specs.View.{documents}
 use Rattle.templates.specs.Faults.{IsFirst}
 use Rattle.templates.specs.View.{node_view}
-use Rattle.templates.specs.ListRules.{all_parameters_broken}
+use Rattle.templates.specs.ListRules.{parameters_in, all_parameters_broken}
 use Rattle.templates.specs.NodeRules.{all_nodes_broken}
 use Rattle.templates.specs.Wholes.{nodes_in}
 use Rattle.templates.proofs.Firsts.{at_error, first_in_front, first_behind}
@@ -29,8 +29,9 @@ returns-in_err-nodes-clause-fault c =
 
 pub returns-clause-templates : goal.returns-clause-templates
 returns-clause-templates c =
-    joined_alike (documents c.args.docs.now) c.joined.result (map (map node_view) c.in_ok-nodes.nodes.items) (map (nodes_in c.args.model.now c.args.names.now) (documents c.args.docs.now))
-    c.in_ok-nodes.ensures.values c.joined.ensures.templates
+    joined_alike (documents c.args.docs.now) c.joined.result c.in_ok-parameters.parameters.items (map (parameters_in c.args.model.now) (documents c.args.docs.now))
+    (map (map node_view) c.in_ok-nodes.nodes.items) (map (nodes_in c.args.model.now c.args.names.now) (documents c.args.docs.now))
+    c.in_ok-parameters.ensures.values c.in_ok-nodes.ensures.values c.joined.ensures.templates
 
 pub returns-clause-parameters : goal.returns-clause-parameters
 returns-clause-parameters c = anyhow c.joined.result (all_parameters_broken c.args.model.now 0 (documents c.args.docs.now) ≡ []) c.in_ok-parameters.ensures.none

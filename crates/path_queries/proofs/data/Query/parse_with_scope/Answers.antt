@@ -1,11 +1,25 @@
-use Rattle.std.proofs.Common.{◌≡◌, ◌∙◌, sym, subst, ap, ◌++◌, map}
+use Rattle.std.proofs.Common.{◌≡◌, ◌≤◌, ◌∙◌, sym, subst, ap, ◌++◌, map, length, arith}
+use Rattle.meaning.specs.Models.{Model}
 use Rattle.meaning.specs.QueryFaults.{query_fault}
+use Rattle.annotated_model.specs.ModelFacts.{KeepsRules}
 use Rattle.path_queries.specs.View.{constraint}
 use Rattle.path_queries.specs.Stops.{Tells}
 use Rattle.path_queries.specs.VariableReading.{ReadsConditions, ConditionsStop}
 use Rattle.path_queries.proofs.Exits.{stops_with}
 use Rattle.path_queries.proofs.QueryLaws.{query_is_read, new_part_stops, conditions_stop}
 use Rattle.path_queries.proofs.data.Query.parse_with_scope.Goals as goal
+
+few_types : (m : Model) → KeepsRules m → length m.types ≤ 65536
+few_types m h = omega (arith, h.few_types)
+
+few_kinds : (m : Model) → KeepsRules m → length m.kinds ≤ 65536
+few_kinds m h = omega (arith, h.few_kinds)
+
+pub parse_new-requires-clause-types : goal.parse_new-requires-clause-types
+parse_new-requires-clause-types c = few_types c.args.model.now c.types-types.ensures.rules
+
+pub parse_conditions-requires-clause-kinds : goal.parse_conditions-requires-clause-kinds
+parse_conditions-requires-clause-kinds c = few_kinds c.args.model.now c.types-types.ensures.rules
 
 pub returns-in_err-new-clause-fault : goal.returns-in_err-new-clause-fault
 returns-in_err-new-clause-fault c =
