@@ -1,5 +1,5 @@
 -- What a `Doc` of each form stands for, and lists beside the documents and members that they are.
-use Rattle.std.proofs.Common.{◌≡◌, ℕ, ℤ, Bool, List, [], ◌∷◌, Some, option_map, String, Vec, BTreeMap, Global, refl, sym, ap, ◌∙◌, rules}
+use Rattle.std.proofs.Common.{◌≡◌, ℕ, ℤ, Bool, List, [], ◌∷◌, ◌++◌, Some, option_map, String, Vec, BTreeMap, Global, refl, sym, ap, ◌∙◌, rules}
 use Rattle.serde_json.specs.declared.value.Value.{Value, Array, Object}
 use Rattle.serde_json.specs.View.{view, items_view, members_view}
 use Rattle.serde_json.proofs.Views.{view-Array, view-Object}
@@ -98,3 +98,13 @@ pub document-toml_table : (v : toml_value.Value) (m : BTreeMap (String Global) t
 document-toml_table v m es e is =
     document-Table-at _ es (members_of_toml (toml_view.table_view m)) refl is
     ∙ sym (ap (λ x. of_toml (toml_view.view x)) e ∙ ap of_toml (toml_views.view-Table m))
+
+-- ---- one more at the end of what was read
+
+pub documents-pushed : (docs : List Doc) (d : Doc) (rest : List Document) → documents (docs ++ d ∷ []) ++ rest ≡ documents docs ++ document d ∷ rest
+documents-pushed [] d rest = refl
+documents-pushed (x ∷ docs) d rest = ap (λ xs. document x ∷ xs) (documents-pushed docs d rest)
+
+pub members-pushed : (es : List (List ℕ × Doc)) (e : List ℕ × Doc) (rest : List (List ℕ × Document)) → members (es ++ e ∷ []) ++ rest ≡ members es ++ (e.0, document e.1) ∷ rest
+members-pushed [] e rest = refl
+members-pushed (x ∷ es) e rest = ap (λ xs. (x.0, document x.1) ∷ xs) (members-pushed es e rest)

@@ -4,4 +4,5 @@ pub mod Ordered
 pub mod Writing
 pub mod Newline
 pub mod Texts
+mod TomlOrder
 pub mod Walks

@@ -1,7 +1,9 @@
-ghost use Rattle.std.specs.Prelude.{◌≡◌, IfOk, Err, None, Some};
+ghost use Rattle.std.specs.Prelude.{◌≡◌, IfOk, Err, None, Some, IsTrue};
+ghost use Rattle.toml.specs.Data.{is_sorted, items_are_sorted, members_are_sorted};
 ghost use Rattle.toml.specs.View.{view, items_view, table_view};
 ghost use Rattle.meaning.specs.Documents.{Toml, document_of, of_toml, listed, entries, items_of_toml, members_of_toml};
 ghost use Rattle.doc_tree.specs.View.{document, documents, members};
+ghost use Rattle.doc_tree.specs.Order.{is_in_order};
 
 use crate::doc::Doc;
 use crate::read::DocStop;
@@ -15,6 +17,7 @@ use toml::{Table, Value};
 pub fn from_toml(alloc: Global, bytes: &[u8]) -> Result<Doc, DocStop>
     ensures ok { IfOk result (λ d. document_of Toml bytes.now ≡ Some (document d)) }
     ensures not { result ≡ Err DocStop.NotDocument → document_of Toml bytes.now ≡ None }
+    ensures in_order { IfOk result (λ d. IsTrue (is_in_order (document d))) }
 {
     match toml::table_from_slice(alloc, bytes) {
         Ok(table) => match entries_from(alloc, &table) {
@@ -33,7 +36,8 @@ pub fn from_toml(alloc: Global, bytes: &[u8]) -> Result<Doc, DocStop>
 
 #[cycle(reading)]
 fn doc_from(alloc: Global, value: &Value) -> Result<Doc, NoMemory>
-    ensures { IfOk result (λ d. document d ≡ of_toml (view value.now)) }
+    ensures same { IfOk result (λ d. document d ≡ of_toml (view value.now)) }
+    ensures sorted { IfOk result (λ _. IsTrue (is_sorted (view value.now))) }
 {
     match value {
         Value::String(text) => Ok(Doc::Text(Word::of(alloc, text.as_str())?)),
@@ -48,7 +52,8 @@ fn doc_from(alloc: Global, value: &Value) -> Result<Doc, NoMemory>
 
 #[cycle(reading)]
 fn items_from(alloc: Global, items: &[Value]) -> Result<Row<Doc>, NoMemory>
-    ensures { IfOk result (λ docs. documents docs ≡ listed (items_of_toml (items_view items.now))) }
+    ensures same { IfOk result (λ docs. documents docs ≡ listed (items_of_toml (items_view items.now))) }
+    ensures sorted { IfOk result (λ _. IsTrue (items_are_sorted (items_view items.now))) }
 {
     let mut docs = Vec::new(alloc);
     'items: for item in items {
@@ -59,10 +64,11 @@ fn items_from(alloc: Global, items: &[Value]) -> Result<Row<Doc>, NoMemory>
 
 #[cycle(reading)]
 fn entries_from(alloc: Global, table: &Table) -> Result<Row<(Word, Doc)>, NoMemory>
-    ensures { IfOk result (λ es. members es ≡ entries (members_of_toml (table_view table.now))) }
+    ensures same { IfOk result (λ es. members es ≡ entries (members_of_toml (table_view table.now))) }
+    ensures sorted { IfOk result (λ _. IsTrue (members_are_sorted (table_view table.now))) }
 {
     let mut entries = Vec::new(alloc);
-    'members: for (name, value) in table {
+    'members: for (name, value) in table.iter() {
         let name = Word::of(alloc, name.as_str())?;
         entries.push((name, doc_from(alloc, value)?))?;
     }

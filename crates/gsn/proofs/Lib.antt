@@ -3,3 +3,4 @@ pub mod UnderWay
 pub mod Chains
 pub mod LeastSets
 pub mod Places
+pub mod LeastStatuses

@@ -1,3 +1,4 @@
 pub mod View
 pub mod Incoming
 pub mod Marks
+pub mod LeastStatuses

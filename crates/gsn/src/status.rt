@@ -4,6 +4,7 @@ ghost use Rattle.std.specs.Prelude.{◌≡◌, IfOk, map, length};
 ghost use Rattle.meaning.specs.Cases as plain;
 ghost use Rattle.gsn.specs.View.{case_of, status_view, EndsInRange};
 ghost use Rattle.gsn.specs.Incoming.{IsIncoming, targets};
+ghost use Rattle.gsn.specs.LeastStatuses.{AreLeastStatuses};
 
 use crate::case::Case;
 use crate::incoming::{Incoming, chains};
@@ -72,7 +73,8 @@ fn status(refuted: bool, supported: bool) -> Status3
 /// supports none of them. All other nodes are open. The time is linear in the nodes and relations.
 pub fn statuses(alloc: Global, case: &Case) -> Result<Row<Status3>, NoMemory>
     requires { EndsInRange case.now }
-    ensures { IfOk result (λ row. map status_view row ≡ plain.statuses (case_of case.now)) }
+    ensures statuses { IfOk result (λ row. map status_view row ≡ plain.statuses (case_of case.now)) }
+    ensures least { IfOk result (λ row. AreLeastStatuses (case_of case.now) (map status_view row)) }
 {
     let incoming = chains(alloc, case.nodes.list().len(), case.relations.list())?;
     let refuted = refuted(alloc, case, &incoming)?;

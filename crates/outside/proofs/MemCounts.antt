@@ -101,3 +101,42 @@ pub faults-absent : (files list : List MemFile) (counts : List ReadCounts) (miss
 faults-absent files list counts missing risen name other i e same_list is h more =
     let i_is : i ≡ place files name = is ∙ ap (λ fs. place fs name) same_list in
     rw (absent-at files list name i same_list is h) (faults-missing files counts missing risen name other e (omega (arith, i_is)) more)
+
+-- bytes are given under the name of a file, and counted there alone
+pub given-set : (files list : List MemFile) (counts : List ReadCounts) (missing n : ℕ) (name other : List ℕ) (i : ℕ) (was c : ReadCounts) → length counts ≡ length files
+    → list ≡ files → i ≡ place list name → i < length files → was ≡ get_or counts i was → c.given ≡ counted was.given n
+    → (count_of (set counts i c) missing (place files other)).given
+    ≡ (if bytes_eq name other then counted (count_of counts missing (place files other)).given n else (count_of counts missing (place files other)).given)
+given-set files list counts missing n name other i was c e same_list is h at risen =
+    let i_is : i ≡ place files name = is ∙ ap (λ fs. place fs name) same_list in
+    let within : i < length counts = omega (arith, e) in
+    let d : ReadCounts = record { faults = missing; given = 0 } in
+    let known : get_or counts i d ≡ was = get_or_default counts i d was within ∙ sym at in
+    let P : Bool → Type 0 = λ b. bytes_eq name other ≡ b → (get_or (set counts i c) (place files other) d).given
+    ≡ (if b then counted (get_or counts (place files other) d).given n else (get_or counts (place files other) d).given) in
+    (elim (bytes_eq name other) as P [
+      | true ↦ λ t.
+          let there : place files other ≡ i = ap (place files) (sym ((bytes_eq-Decides name other).0 t)) ∙ sym i_is in
+          rw (there, known) (ap (λ x. x.given) (get_or-set_same counts i c d within) ∙ risen)
+      | false ↦ λ t.
+          let differ : place files other ≢ i = λ same.
+          let equal : name ≡ other = place-same files name other (omega (arith, i_is)) (same ∙ i_is) in
+          let yes : bytes_eq name other ≡ true = (bytes_eq-Decides name other).1 equal in (cc) in
+          ap (λ x. x.given) (get_or-set_other counts i (place files other) c d differ)
+    ]) refl
+
+-- a failure under a name with a file leaves what was given
+pub given-kept : (counts : List ReadCounts) (missing i place_of_other : ℕ) (was c : ReadCounts) → was ≡ get_or counts i was → c.given ≡ was.given
+    → (count_of (set counts i c) missing place_of_other).given ≡ (count_of counts missing place_of_other).given
+given-kept [] missing i p was c at same = refl
+given-kept (x ∷ counts) missing zero zero was c at same = same ∙ ap (λ x. x.given) at
+given-kept (x ∷ counts) missing zero (suc p) was c at same = refl
+given-kept (x ∷ counts) missing (suc i) zero was c at same = refl
+given-kept (x ∷ counts) missing (suc i) (suc p) was c at same = given-kept counts missing i p was c at same
+
+-- and so does one under a name with no file
+pub given-absent : (counts : List ReadCounts) (missing risen place_of_other : ℕ)
+    → (count_of counts risen place_of_other).given ≡ (count_of counts missing place_of_other).given
+given-absent [] missing risen p = refl
+given-absent (x ∷ counts) missing risen zero = refl
+given-absent (x ∷ counts) missing risen (suc p) = given-absent counts missing risen p

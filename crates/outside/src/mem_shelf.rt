@@ -137,7 +137,7 @@ impl Shelf for MemShelf {
         ensures no_less_given { NoFewer (given_under self.old) (given_under self.new) }
         ensures same_files { bytes_under self.new ≡ bytes_under self.old }
 
-        // Beyond the trait: exactly when a read fails, how much it gives, what it counts.
+        // Beyond the trait: exactly when a read fails, how much it gives, what it counts under each name.
         ensures fails { is_err result
             ≡ (is_none (bytes_under self.old name.now) || is_listed (failing_reads self.old) (reads_made self.old)) }
         ensures as_much { IfOk result (λ n. (file : List ℕ) → bytes_under self.old name.now ≡ Some file
@@ -147,6 +147,9 @@ impl Shelf for MemShelf {
             ≡ (if shares_count self.old name.now other then counted (faults_under self.old other) 1
             else faults_under self.old other)) }
         ensures counts_no_fault { OnOk result ((other : List ℕ) → faults_under self.new other ≡ faults_under self.old other) }
+        ensures gives_under_the_name { IfOk result (λ n. (other : List ℕ) → given_under self.new other
+            ≡ (if bytes_eq name.now other then counted (given_under self.old other) n else given_under self.old other)) }
+        ensures gives_nothing { OnErr result ((other : List ℕ) → given_under self.new other ≡ given_under self.old other) }
         ensures same_failing { failing_reads self.new ≡ failing_reads self.old }
     {
         let number = self.reads;

@@ -1,10 +1,12 @@
-use Rattle.std.proofs.Common.{◌≡◌, ◌<◌, ◌++◌, ◌∷◌, [], false, map, length, sym, ap, ◌∙◌, arith}
+use Rattle.std.proofs.Common.{◌≡◌, ◌<◌, ◌++◌, ◌∷◌, [], false, map, length, sym, ap, subst, ◌∙◌, arith}
 use Rattle.std.specs.List.{range_with_len}
 use Rattle.std.proofs.lemmas.List.{get_or_read, map-append}
 use Rattle.std.proofs.lemmas.List.FromFn.{map-range_with_len_more}
 use Rattle.meaning.specs.Cases as plain
 use Rattle.meaning.specs.Texts.{holds_at}
-use Rattle.gsn.specs.View.{status_view}
+use Rattle.gsn.specs.View.{case_of, status_view}
+use Rattle.gsn.specs.LeastStatuses.{AreLeastStatuses}
+use Rattle.gsn.proofs.LeastStatuses.{statuses_least}
 use Rattle.gsn.proofs.LeastSets.{holds_is, length_refuted, length_supported, statuses_by_number}
 use Rattle.gsn.proofs.status.statuses.Goals as goal
 
@@ -33,10 +35,14 @@ nodes-preserved c =
     (c.status.ensures ∙ (ap (λ x. plain.status_of x c.index-in-nodes.result.now) read_r ∙ ap (plain.status_of (holds_at c.in_ok-refuted.refuted.items c.nodes.k)) read_s))
     ∙ sym (map-range_with_len_more (λ i. plain.status_of (holds_at c.in_ok-refuted.refuted.items i) (holds_at c.in_ok-supported.supported.items i)) 0 c.nodes.k c.nodes.k (omega arith)))))
 
-pub returns : goal.returns
-returns c =
+pub returns-clause-statuses : goal.returns-clause-statuses
+returns-clause-statuses c =
     let n = c.len-k-end.ensures in
     ap (map status_view) c.of.ensures ∙ (c.nodes.invariant
     ∙ (ap (λ k. map (λ i. plain.status_of (holds_at c.in_ok-refuted.refuted.items i) (holds_at c.in_ok-supported.supported.items i)) (range_with_len 0 k))
     (omega (arith, n, c.nodes-test.false, c.nodes.auto.k-end, c.in_ok-refuted.refuted.ok.0))
     ∙ statuses_by_number c.args.case.now.nodes c.args.case.now.relations c.in_ok-refuted.refuted.items c.in_ok-supported.supported.items c.in_ok-refuted.ensures c.in_ok-supported.ensures))
+
+pub returns-clause-least : goal.returns-clause-least
+returns-clause-least c =
+    subst (AreLeastStatuses (case_of c.args.case.now)) (sym (returns-clause-statuses c)) (statuses_least (case_of c.args.case.now))

@@ -1,7 +1,7 @@
 use Rattle.std.proofs.Common.{arith, refl}
 use Rattle.std.proofs.lemmas.Grind.{common_steps}
 use Rattle.outside.proofs.MemFiles.{held-part, held-much, absent-at, present-at}
-use Rattle.outside.proofs.MemCounts.{faults-set, faults-absent}
+use Rattle.outside.proofs.MemCounts.{faults-set, faults-absent, given-set}
 use Rattle.outside.proofs.mem_shelf.MemShelfShelf.part.Goals as goal
 
 pub returns-clause-bytes : goal.returns-clause-bytes
@@ -36,3 +36,10 @@ returns-then-contains-clause-counts_fault c other =
     faults-set old.files.items c.as_slice.result.now old.counts.items old.missing c.args.name.now other c.place_of-at.result c.index.result.now _
     (omega (arith, old.files.ok.0, old.counts.ok.0, old.one_count_each)) c.as_slice.ensures.value c.place_of-at.ensures (omega (arith, old.files.ok.0, c.len.ensures))
     c.index.ensures (grind (arith, c.saturating_add.ensures))
+
+pub returns-clause-gives_under_the_name : goal.returns-clause-gives_under_the_name
+returns-clause-gives_under_the_name c other =
+    let old = c.args.self.now in
+    given-set old.files.items c.as_slice.result.now old.counts.items old.missing c.copy_part-n.result c.args.name.now other c.place_of-at.result c.index-3.result.now _
+    (omega (arith, old.files.ok.0, old.counts.ok.0, old.one_count_each)) c.as_slice.ensures.value c.place_of-at.ensures (omega (arith, old.files.ok.0, c.len.ensures))
+    c.index-3.ensures (grind (arith, c.saturating_add-2.ensures))
