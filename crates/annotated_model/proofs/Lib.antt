@@ -14,6 +14,7 @@ pub mod KnownLaws
 pub mod PlacedSystems
 pub mod OwnerLaws
 pub mod RulesKept
+pub mod Limits
 pub mod ModelLaws
 pub mod ProperProducts
 pub mod WholeReads

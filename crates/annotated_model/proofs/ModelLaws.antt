@@ -1,27 +1,32 @@
 -- A bundle whose model breaks no rule has a model whose numbers are all in range.
-use Rattle.std.proofs.Common.{◌≡◌, refl, sym, ap, ◌∙◌, subst, ℕ, ◌<◌, List, [], ◌++◌, length, map, take, Bool, true, false, Some, arith}
+use Rattle.std.proofs.Common.{◌≡◌, refl, sym, ap, ◌∙◌, subst, ℕ, ◌<◌, ◌≤◌, List, [], ◌++◌, length, map, take, Bool, true, false, Some, arith}
 use Rattle.std.specs.Prelude.{codes, slice_get, not}
-use Rattle.std.specs.List.{All, AllByRecursion}
+use Rattle.std.specs.List.{All, AllByRecursion, sum_by}
 use Rattle.std.proofs.lemmas.List.{length-map}
 use Rattle.std.proofs.lemmas.Option.{slice_get-map}
 use Rattle.meaning.specs.Texts.{numbered, first_of_list, place_of, is_name}
 use Rattle.meaning.specs.Documents.{Document, text_at, list_at}
-use Rattle.meaning.specs.Models.{TypeDef, Model, number_in, inherited, kind_of, element_of, link_of, system_from, model_from, model_of}
-use Rattle.meaning.specs.BundlePlaces.{Types, Kinds, Elements, Links, Systems, States, Transitions, requires, faults_at, may_have, is_list_value, name_in, is_among}
+use Rattle.meaning.specs.Models.{TypeDef, Model, number_in, inherited, kind_of, element_of, link_of, state_of, transition_of, system_from, model_from, model_of}
+use Rattle.meaning.specs.BundlePlaces.{Types, Kinds, Labels, Elements, Links, Systems, States, Transitions, requires, faults_at, may_have, is_list_value, name_in, is_among}
 use Rattle.meaning.specs.LineRules.{is_within, expression_rules}
-use Rattle.meaning.specs.ModelRules.{ModelContext, element_has_form, element_texts_fit, context_of, model_in, types_in, faults_in_item, kind_rules, element_rules, link_rules, state_rules, transition_rules, system_rules, faults_of_context, model_faults}
+use Rattle.meaning.specs.ModelRules.{ModelContext, element_has_form, element_texts_fit, context_of, model_in, types_in, faults_in_item, label_text, type_rules, kind_rules, label_rules, element_rules, link_rules, state_rules, transition_rules, system_rules, faults_of_context, model_faults}
 use Rattle.meaning.proofs.FirstFaults.{nothing_first, nothing_left}
 use Rattle.annotated_model.specs.Known.{ParentsAreEarlier}
 use Rattle.annotated_model.specs.ModelFacts.{KindFits, ElementFits, LinkFits, SystemFits, KeepsRules}
 use Rattle.annotated_model.specs.Items.{part_form, types_broken, texts_form, element_form_broken, attributes_given, element_broken}
 use Rattle.annotated_model.specs.Parts.{type_names_in, names_at, labels_in, owners_in, systems_in, type_faults, kind_faults, label_faults, element_faults, link_faults, system_faults, state_faults, transition_faults, owner_faults}
 use Rattle.annotated_model.proofs.NewTexts.{not_true}
-use Rattle.annotated_model.proofs.TypeLaws.{where_formed_none, type_first, types_are}
+use Rattle.annotated_model.proofs.TypeLaws.{where_formed_none, type_first, types_are, type_names_are}
+use Rattle.annotated_model.specs.StateRules.{given_states}
+use Rattle.annotated_model.specs.TransitionRules.{given_transitions}
+use Rattle.annotated_model.proofs.StateLaws.{state_faults_are}
+use Rattle.annotated_model.proofs.TransitionLaws.{transition_faults_are}
+use Rattle.annotated_model.proofs.Limits.{few_in_list, type_within, kind_within, label_within, element_within, link_within, system_within, states_in_all, transitions_in_all, each_in_sum, sum_of_map}
 use Rattle.annotated_model.proofs.ItemFacts.{left_true, right_true, weaker, kind_ends, element_type}
 use Rattle.annotated_model.proofs.PartLaws.{kind_rules_are, element_rules_are}
 use Rattle.annotated_model.proofs.KnownLaws.{map_twice, parents_told}
 use Rattle.annotated_model.proofs.SystemPlacesLaw.{own_place, at_number, some_there}
-use Rattle.annotated_model.proofs.RulesKept.{no_faults_at, each_in_list, each_of_flat, unnumbered, number_within, link_known, system_known, both, all_values, system_fits}
+use Rattle.annotated_model.proofs.RulesKept.{no_faults_at, each_in_list, each_of_flat, unnumbered, with_numbers, IsFew, number_within, link_known, system_known, both, all_values, system_fits}
 
 module _ (features : List (List ℕ)) (model : Document) where
   abbrev c : ModelContext
@@ -117,6 +122,19 @@ module _ (features : List (List ℕ)) (model : Document) where
               (number_within elements (text_at (codes "to") d) (right_true _ _ known));
         }) none.links)
 
+    given_in_all : (sum_by (λ d. length (given_states d)) (list_at (codes "systems") model) ≤ 4096)
+        × (sum_by (λ d. length (given_transitions d)) (list_at (codes "systems") model) ≤ 16384)
+    given_in_all = (
+      states_in_all (labels_in model) (list_at (codes "systems") model) (sym (state_faults_are features (labels_in model) model refl) ∙ none.states),
+      transitions_in_all features (list_at (codes "systems") model) (sym (transition_faults_are features model) ∙ none.transitions),
+    )
+
+    systems_few : AllByRecursion IsFew (list_at (codes "systems") model)
+    systems_few =
+        let systems = list_at (codes "systems") model in
+        both (λ d. length (given_states d) ≤ 4096) (λ d. length (given_transitions d) ≤ 16384) systems
+        (each_in_sum (λ d. length (given_states d)) 4096 systems given_in_all.0) (each_in_sum (λ d. length (given_transitions d)) 16384 systems given_in_all.1)
+
     systems_fit : All (SystemFits m) m.systems
     systems_fit =
         let systems = list_at (codes "systems") model in
@@ -129,12 +147,70 @@ module _ (features : List (List ℕ)) (model : Document) where
         let transitions = each_of_flat in_transitions (λ i d. in_transitions (i, d) ≡ []) (λ i d e. e) 0 systems none.transitions in
         all_values (SystemFits m) (system_from features (labels_in model) (names_at (codes "elements") model)) systems
         (unnumbered (λ d. SystemFits m (system_from features (labels_in model) (names_at (codes "elements") model) d)) 0 systems
-        (weaker _ _ (λ x p. system_fits c features m refl count_elements x.0 x.1 (p.0, p.1.0, p.1.1)) (numbered systems)
-        (both (λ x. system_rules c x ≡ []) (λ x. (in_states x ≡ []) × (in_transitions x ≡ [])) (numbered systems) themselves
-        (both (λ x. in_states x ≡ []) (λ x. in_transitions x ≡ []) (numbered systems) states transitions))))
+        (weaker _ _ (λ x p. system_fits c features m refl count_elements x.0 x.1 (p.0, p.1.0, p.1.1.0) p.1.1.1) (numbered systems)
+        (both (λ x. system_rules c x ≡ []) (λ x. (in_states x ≡ []) × ((in_transitions x ≡ []) × IsFew x.1)) (numbered systems) themselves
+        (both (λ x. in_states x ≡ []) (λ x. (in_transitions x ≡ []) × IsFew x.1) (numbered systems) states
+        (both (λ x. in_transitions x ≡ []) (λ x. IsFew x.1) (numbered systems) transitions (with_numbers IsFew 0 systems systems_few))))))
+
+    -- ---- limits
+
+    few_types : length m.types ≤ 256
+    few_types =
+        let count : length m.types ≡ length (list_at (codes "types") model) =
+        sym count_types ∙ ap length (type_names_are model) ∙ length-map (list_at (codes "types") model) name_in in
+        subst (λ n. n ≤ 256) (sym count) (few_in_list c Types (codes "types") (type_rules c) 256 (type_within c) none.types)
+
+    few_kinds : length m.kinds ≤ 256
+    few_kinds =
+        subst (λ n. n ≤ 256) (sym (length-map (list_at (codes "kinds") model) (kind_of (type_names_in model))))
+        (few_in_list c Kinds (codes "kinds") (kind_rules c) 256 (kind_within c) none.kinds)
+
+    few_labels : length m.labels ≤ 256
+    few_labels =
+        subst (λ n. n ≤ 256) (sym (length-map (list_at (codes "labels") model) label_text))
+        (few_in_list c Labels (codes "labels") (label_rules c) 256 (label_within c) none.labels)
+
+    few_elements : length m.elements ≤ 2048
+    few_elements =
+        subst (λ n. n ≤ 2048) (sym (length-map (list_at (codes "elements") model) (element_of features (types_in model))))
+        (few_in_list c Elements (codes "elements") (element_rules c) 2048 (element_within c) none.elements)
+
+    few_links : length m.links ≤ 16384
+    few_links =
+        subst (λ n. n ≤ 16384) (sym (length-map (list_at (codes "links") model) (link_of features (names_at (codes "kinds") model) (names_at (codes "elements") model))))
+        (few_in_list c Links (codes "links") (link_rules c) 16384 (link_within c) none.links)
+
+    few_systems : length m.systems ≤ 256
+    few_systems =
+        subst (λ n. n ≤ 256) (sym (length-map (list_at (codes "systems") model) (system_from features (labels_in model) (names_at (codes "elements") model))))
+        (few_in_list c Systems (codes "systems") (system_rules c) 256 (system_within c) none.systems)
+
+    few_states_in_all : sum_by (λ s. length s.states) m.systems ≤ 4096
+    few_states_in_all =
+        subst (λ n. n ≤ 4096) (sym (sum_of_map (λ s. length s.states) (system_from features (labels_in model) (names_at (codes "elements") model))
+        (λ d. length (given_states d)) (λ d. length-map (given_states d) (state_of (labels_in model))) (list_at (codes "systems") model))) given_in_all.0
+
+    few_transitions_in_all : sum_by (λ s. length s.transitions) m.systems ≤ 16384
+    few_transitions_in_all =
+        subst (λ n. n ≤ 16384) (sym (sum_of_map (λ s. length s.transitions) (system_from features (labels_in model) (names_at (codes "elements") model))
+        (λ d. length (given_transitions d)) (λ d. length-map (given_transitions d) (transition_of features (map name_in (given_states d)))) (list_at (codes "systems") model))) given_in_all.1
 
     pub keeps_rules : KeepsRules (model_from features model)
-    keeps_rules = record { parents = parents; kinds = kinds_fit; elements = elements_fit; links = links_fit; systems = systems_fit }
+    keeps_rules = record {
+      parents = parents;
+      kinds = kinds_fit;
+      elements = elements_fit;
+      links = links_fit;
+      systems = systems_fit;
+      few_types = few_types;
+      few_kinds = few_kinds;
+      few_labels = few_labels;
+      few_elements = few_elements;
+      few_links = few_links;
+      few_systems = few_systems;
+      few_states_in_all = few_states_in_all;
+      few_transitions_in_all = few_transitions_in_all;
+    }
 
 -- the numbers of a model that breaks no rule are in range
 pub model_keeps_rules : (features : List (List ℕ)) (bundle : Document) → model_faults features bundle ≡ [] → KeepsRules (model_of features bundle)

@@ -1,5 +1,5 @@
 -- A model that breaks no rule keeps its numbers in range.
-use Rattle.std.proofs.Common.{◌≡◌, refl, sym, ap, ◌∙◌, subst, ℕ, ◌+◌, ◌<◌, List, [], ◌∷◌, ◌++◌, length, map, Bool, true, false}
+use Rattle.std.proofs.Common.{◌≡◌, refl, sym, ap, ◌∙◌, subst, ℕ, ◌+◌, ◌<◌, ◌≤◌, List, [], ◌∷◌, ◌++◌, length, map, Bool, true, false}
 use Rattle.std.specs.Prelude.{codes, unwrap_or, not, ◌&&◌, ◌||◌}
 use Rattle.std.specs.List.{All, AllByRecursion, enumerate_from, list_any, list_all}
 use Rattle.std.proofs.lemmas.List.{length-map}
@@ -35,6 +35,10 @@ each_of_flat faults P each i (x ∷ xs) none =
 pub unnumbered : {X : Type 0} (P : X → Type 0) (i : ℕ) (xs : List X) → AllByRecursion (λ y. P y.1) (enumerate_from i xs) → AllByRecursion P xs
 unnumbered P i [] h = tt
 unnumbered P i (x ∷ xs) h = (h.0, unnumbered P (i + 1) xs h.1)
+
+pub with_numbers : {X : Type 0} (P : X → Type 0) (i : ℕ) (xs : List X) → AllByRecursion P xs → AllByRecursion (λ y. P y.1) (enumerate_from i xs)
+with_numbers P i [] h = tt
+with_numbers P i (x ∷ xs) h = (h.0, with_numbers P (i + 1) xs h.1)
 
 module _ (c : ModelContext) (part : Part) (k : List ℕ) (rules : ℕ × Document → List Broken) (P : Document → Type 0)
     (each : (i : ℕ) (d : Document) → rules (i, d) ≡ [] → P d) where
@@ -124,6 +128,10 @@ all_values P f xs h = All-from_recursion P (map f xs) (all_mapped P f xs h)
 
 -- ---- a system
 
+-- the states and the transitions of a system are within the limits
+abbrev pub IsFew : Document → Type 0
+IsFew d = (length (list_at (codes "states") d) ≤ 4096) × (length (list_at (codes "transitions") d) ≤ 16384)
+
 module _ (c : ModelContext) (features : List (List ℕ)) (m : Model) (labels : c.labels ≡ m.labels)
     (elements : length (names_at (codes "elements") c.table) ≡ length m.elements) where
   -- the three parts of a system have no fault
@@ -132,8 +140,9 @@ module _ (c : ModelContext) (features : List (List ℕ)) (m : Model) (labels : c
       (system_rules c x ≡ []) × (faults_in_item States (codes "states") (state_rules c x) x ≡ [])
       × (faults_in_item Transitions (codes "transitions") (transition_rules c x) x ≡ [])
 
-  pub system_fits : (i : ℕ) (d : Document) → SystemPasses (i, d) → SystemFits m (system_from features c.labels (names_at (codes "elements") c.table) d)
-  system_fits i d p =
+  pub system_fits : (i : ℕ) (d : Document) → SystemPasses (i, d) → IsFew d
+      → SystemFits m (system_from features c.labels (names_at (codes "elements") c.table) d)
+  system_fits i d p few =
       let x : ℕ × Document = (i, d) in
       let states = list_at (codes "states") d in
       let transitions = list_at (codes "transitions") d in
@@ -162,4 +171,6 @@ module _ (c : ModelContext) (features : List (List ℕ)) (m : Model) (labels : c
               source = subst (λ n. number_in names (text_at (codes "from") t) < n) count (number_within names (text_at (codes "from") t) (left_true _ _ e));
               target = subst (λ n. number_in names (text_at (codes "to") t) < n) count (number_within names (text_at (codes "to") t) (right_true _ _ e));
             }) transitions joined);
+        few_states = subst (λ n. n ≤ 4096) (sym (length-map states (state_of c.labels))) few.0;
+        few_transitions = subst (λ n. n ≤ 16384) (sym (length-map transitions (transition_of features names))) few.1;
       }

@@ -1,6 +1,6 @@
 -- What always holds of a model that was read without a fault, and of its products.
 use Rattle.std.specs.Prelude.{◌≡◌, ℕ, ◌<◌, ◌≤◌, List, length, Bool, true, Some, Contains}
-use Rattle.std.specs.List.{All, list_any}
+use Rattle.std.specs.List.{All, list_any, sum_by}
 use Rattle.meaning.specs.Expressions.{name_bound}
 use Rattle.meaning.specs.Models.{LinkKind, Element, Link, Transition, System, Model, inherited, model_at, projection}
 use Rattle.meaning.specs.Queries.{LinksJoinElements}
@@ -50,6 +50,8 @@ pub record KeepsRules (m : Model) : Type 0 where
   pub few_elements : length m.elements ≤ 2048
   pub few_links : length m.links ≤ 16384
   pub few_systems : length m.systems ≤ 256
+  pub few_states_in_all : sum_by (λ s. length s.states) m.systems ≤ 4096
+  pub few_transitions_in_all : sum_by (λ s. length s.transitions) m.systems ≤ 16384
 
 -- in every product each system is proper, and each link joins elements
 pub record HasProperProducts (m : Model) : Type 0 where
