@@ -30,3 +30,5 @@ pub mod LineNames
 pub mod CaseReadsBack
 pub mod ProperNames
 pub mod NamePlaces
+pub mod ReplayLaws
+pub mod VerdictLaws

@@ -44,3 +44,4 @@ pub mod Answers
 pub mod Stages
 pub mod TopCall
 pub mod Layers
+pub mod Verdicts
