@@ -73,3 +73,5 @@ pub mod VariablePasses
 pub mod QueryGrammarLaw
 pub mod HolesRead
 pub mod HolesFound
+pub mod ReplayLaws
+pub mod VerdictLaws

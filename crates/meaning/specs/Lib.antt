@@ -48,3 +48,4 @@ pub mod Stages
 pub mod TopCall
 pub mod Layers
 pub mod SameBuilds
+pub mod Verdicts
