@@ -75,3 +75,4 @@ pub mod HolesRead
 pub mod HolesFound
 pub mod ReplayLaws
 pub mod VerdictLaws
+pub mod RunDistances

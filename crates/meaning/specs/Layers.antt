@@ -1,10 +1,15 @@
 -- The states of a system by their distance, and over which transitions the shortest runs go, in a product that may lack the element of the system.
-use Rattle.std.specs.Prelude.{ℕ, List, [], map, length, Bool, ◌&&◌, if◌then◌else◌, filter}
+use Rattle.std.specs.Prelude.{ℕ, List, [], map, length, Bool, false, ◌&&◌, if◌then◌else◌, nat_le, Option, Some, None, filter}
 use Rattle.meaning.specs.Texts.{flat, numbered, numbers_from}
 use Rattle.meaning.specs.Expressions.{truth}
 use Rattle.meaning.specs.Models.{Model, System, PlainSystem, projection, has_element}
 use Rattle.meaning.specs.Systems.{distance, is_number, is_reachable}
 use Rattle.meaning.specs.Tidy.{is_step_back}
+
+-- there is a distance, and it is at most so great
+abbrev pub is_within : ℕ → Option ℕ → Bool
+is_within n None = false
+is_within n (Some k) = nat_le k n
 
 -- the states at a distance, in their order, each with it
 abbrev pub states_at_distance : PlainSystem → ℕ → List (ℕ × ℕ)
