@@ -134,9 +134,10 @@ numbers_are_few vars nodes reduced =
     (λ a b a_in b_in same. canonical vars nodes a b reduced a_in b_in (λ u.
     table_same vars 0 vars (value nodes a) (value nodes b) blank u (omega arith) (ends a a_in) (ends b b_in) same (λ k k_in. absurd (omega arith))))
 
--- the count of questions bounds the nodes, also where it has come to its end
-pub few_after : (vars top asked old new : ℕ) → old ≤ asked * (2 ^ vars - 1) → new + 1 ≤ old + 2 ^ (vars - top) → new ≤ 1048576 → new ≤ counted asked 1 * (2 ^ vars - 1)
-few_after vars top asked old new few more small =
+-- the counts of questions and of rows bound the nodes, also where the first has come to its end
+pub few_after : (vars top asked taken old new : ℕ) → old ≤ (asked + taken) * (2 ^ vars - 1) → new + 1 ≤ old + 2 ^ (vars - top) → new ≤ 1048576
+    → new ≤ (counted asked 1 + taken) * (2 ^ vars - 1)
+few_after vars top asked taken old new few more small =
     let bound : 2 ^ (vars - top) ≤ 2 ^ vars = pow_mono (omega arith) in
     let room : ℕ = 2 ^ vars - 1 in
     let step : new ≤ old + room = omega (arith, pow_pos vars) in
@@ -149,10 +150,10 @@ few_after vars top asked old new few more small =
     ⊎_elim
     (λ (none : room < 1).
     let no_room : room ≡ 0 = omega arith in
-    let nothing : asked * room ≡ 0 = rw no_room (omega arith) in
+    let nothing : (asked + taken) * room ≡ 0 = rw no_room (omega arith) in
     omega arith)
     (λ (some : 1 ≤ room).
-    let up : counted asked 1 * 1 ≤ counted asked 1 * room = mul-le-mul_left (counted asked 1) some in
+    let up : (counted asked 1 + taken) * 1 ≤ (counted asked 1 + taken) * room = mul-le-mul_left (counted asked 1 + taken) some in
     omega arith)
     (cases_lt room 1))
     (cases_lt asked (2 ^ 64 - 1))
@@ -174,10 +175,10 @@ limit_below vars asked limit nodes reduced full some few =
     rw test (omega arith))
     (cases_lt vars 5)
 
--- more questions need no fewer nodes
-pub nodes_of_functions-more : (vars asked : ℕ) → asked ≤ 2 ^ 64 - 1 → nodes_of_functions vars asked ≤ nodes_of_functions vars (counted asked 1)
-nodes_of_functions-more vars asked fits =
+-- more functions need no fewer nodes
+pub nodes_of_functions-more : (vars few more : ℕ) → few ≤ more → nodes_of_functions vars few ≤ nodes_of_functions vars more
+nodes_of_functions-more vars few more less =
     ⊎_elim
     (λ (small : vars < 5). let test : leb vars 4 ≡ true = grind (arith, nat_tests) in rw test (omega arith))
-    (λ (large : 5 ≤ vars). let test : leb vars 4 ≡ false = grind (arith, nat_tests) in rw test (mul-le-mul_left (2 ^ vars) (omega arith)))
+    (λ (large : 5 ≤ vars). let test : leb vars 4 ≡ false = grind (arith, nat_tests) in rw test (mul-le-mul_left (2 ^ vars) less))
     (cases_lt vars 5)

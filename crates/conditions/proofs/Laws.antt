@@ -78,7 +78,7 @@ Kept-asks old new question result a = record {
   asked = a.no_less_asked;
   refused = a.no_fewer_refused;
   limit = a.grows.limit;
-  taken = refl;
+  taken = a.taken;
   size = a.grows.extends.no_shorter;
 }
 

@@ -17,15 +17,16 @@ use Rattle.conditions.specs.declared.question.Question.{Question}
 use Rattle.conditions.specs.declared.diagrams.Diagrams.TheInside.{Inside}
 use Rattle.conditions.specs.Answers.{asked_in}
 
--- the nodes, the condition of the valid worlds, and the counts of growing calls and of refused ones
+-- the nodes, the condition of the valid worlds, and the counts of growing calls, of refused ones, and of what was taken in from outside
 pub record State : Type 0 where
   pub region : Region
   pub valid : NodeNo
   pub asked : ℕ
   pub refused : ℕ
+  pub taken : ℕ
 
 abbrev pub state_of : Inside → State
-state_of d = record { region = d.store; valid = d.valid; asked = d.asked; refused = d.refused }
+state_of d = record { region = d.store; valid = d.valid; asked = d.asked; refused = d.refused; taken = d.taken }
 
 -- the number is there, and true only at valid worlds
 pub record IsLive (r : Region) (valid c : NodeNo) : Type 0 where
@@ -54,7 +55,7 @@ algebra_of s = record {
   asked = s.asked;
   refused = s.refused;
   limit = s.region.limit;
-  taken = 0;
+  taken = s.taken;
   size = length s.region.nodes;
   span = span_of s.region;
 }
@@ -67,7 +68,7 @@ IsBounded a = 0 < a.refused → a.limit < nodes_of_functions a.count (a.asked + 
 pub record IsSound (d : Inside) : Type 0 where
   pub region : IsRegion d.store
   pub valid_there : IsThere (pool_of d.store) d.valid.0
-  pub few : length d.store.nodes ≤ d.asked * (2 ^ d.store.vars - 1)
+  pub few : length d.store.nodes ≤ (d.asked + d.taken) * (2 ^ d.store.vars - 1)
   pub bounded : IsBounded (algebra_of (state_of d))
   pub shut : d.store.limit ≡ 0 → d.refused ≡ 0
 
@@ -90,6 +91,7 @@ pub record Asks (old new : State) (question : Question) (result : Result NodeNo 
   pub valid : new.valid ≡ old.valid
   pub asked : new.asked ≡ counted old.asked 1
   pub refused : new.refused ≡ refusals_after result old.refused
+  pub taken : new.taken ≡ old.taken
   pub no_less_asked : old.asked ≤ new.asked
   pub no_fewer_refused : old.refused ≤ new.refused
   pub answer : IfOk result (HasFunction new.region (asked_in old.region question))

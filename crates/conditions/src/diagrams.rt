@@ -37,6 +37,7 @@ pub struct Diagrams {
     valid: Cond,
     asked: u64,
     refused: u64,
+    taken: u64,
 }
 
 impl Model for Diagrams {
@@ -54,7 +55,7 @@ impl Model for Diagrams {
 impl Diagrams {
     /// A value with no features, no nodes and no memory. Its limit is 0.
     pub fn shut() -> Diagrams
-        ensures { result ≡ record { region = no_region; valid = record { 0 = 1 }; asked = 0; refused = 0 } }
+        ensures { result ≡ record { region = no_region; valid = record { 0 = 1 }; asked = 0; refused = 0; taken = 0 } }
     {
         let store = Store::shut();
         let _used = store.used();
@@ -63,6 +64,7 @@ impl Diagrams {
             valid: TRUE,
             asked: 0,
             refused: 0,
+            taken: 0,
         }
     }
 
@@ -86,7 +88,7 @@ impl Diagrams {
         requires some { 1 ≤ limit }
         requires few { limit ≤ MAX_NODES }
         requires few_features { features ≤ MAX_VARS }
-        ensures { IfOk result (λ d. d ≡ record { region = record { limit = limit; vars = features; nodes = [] }; valid = record { 0 = 1 }; asked = 0; refused = 0 }) }
+        ensures { IfOk result (λ d. d ≡ record { region = record { limit = limit; vars = features; nodes = [] }; valid = record { 0 = 1 }; asked = 0; refused = 0; taken = 0 }) }
     {
         let mut diagrams = Diagrams::shut();
         diagrams.start(alloc, limit, features)?;
@@ -108,13 +110,22 @@ impl Diagrams {
         self.store.limit()
     }
 
-    /// How many growing calls were refused. Where there was one, the limit is too low for as many functions as were asked for.
+    /// How many growing calls were refused. Where there was one, the limit is too low for as many functions as were asked for and taken in.
     pub fn refused(&self) -> u64
         ensures value { result ≡ self.now.refused }
         ensures bounded { IsBounded (algebra_of self.now) }
     {
         let _invariant = &self.store;
         self.refused
+    }
+
+    /// How many rows were taken in from tables.
+    pub fn taken(&self) -> u64
+        ensures value { result ≡ self.now.taken }
+        ensures bounded { IsBounded (algebra_of self.now) }
+    {
+        let _invariant = &self.store;
+        self.taken
     }
 
     /// Leaves those worlds at which `c` holds. From now on `always` is `c`, and only `c`, `never` and what is made from them are live.

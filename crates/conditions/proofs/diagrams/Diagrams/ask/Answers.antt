@@ -1,6 +1,5 @@
-use Rattle.std.proofs.Common.{◌≡◌, ℕ, subst, ◌+◌, ◌-◌, ◌*◌, ◌^◌, ◌<◌, ◌≤◌, length, ◌∙◌, refl, arith}
+use Rattle.std.proofs.Common.{◌≡◌, ◌+◌, ◌-◌, ◌*◌, ◌^◌, ◌<◌, ◌≤◌, length, ◌∙◌, refl, arith}
 use Rattle.meaning.specs.Bounds.{nodes_of_functions}
-use Rattle.meaning.specs.Counts.{counted}
 use Rattle.node_pool.specs.Functions.{pool_of}
 use Rattle.meaning.specs.Cofactors.{IsThere}
 use Rattle.conditions.specs.Questions.{first_of}
@@ -8,33 +7,29 @@ use Rattle.conditions.proofs.Counting.{few_after, limit_below, nodes_of_function
 use Rattle.conditions.proofs.diagrams.Diagrams.ask.Goals as goal
 use Rattle.conditions.proofs.diagrams.Diagrams.ask.Goals.{After-ask}
 
-few_now : (c : After-ask) → length c.ask.new.self.nodes ≤ c.saturating_add-self-inside.result * (2 ^ c.ask.new.self.vars - 1)
+few_now : (c : After-ask) → length c.ask.new.self.nodes ≤ (c.saturating_add-self-inside.result + c.self.inside.taken) * (2 ^ c.ask.new.self.vars - 1)
 few_now c =
     let old = c.self.inside.store in
     let new = c.ask.new.self in
     let p = c.ask.ensures.answers.progress in
     let small : length new.nodes ≤ 1048576 = omega (arith, p.region.within, p.region.few) in
     rw (p.grows.vars, c.saturating_add-self-inside.ensures)
-    (few_after old.vars (first_of old.vars old.nodes c.args.question) c.self.inside.asked (length old.nodes) (length new.nodes) c.self.invariant.few p.few small)
-
-below_with_none : (limit vars n : ℕ) → limit < nodes_of_functions vars n → limit < nodes_of_functions vars (n + 0)
-below_with_none limit vars n below = let e : n ≡ n + 0 = omega arith in subst (λ k. limit < nodes_of_functions vars k) e below
+    (few_after old.vars (first_of old.vars old.nodes c.args.question) c.self.inside.asked c.self.inside.taken (length old.nodes) (length new.nodes) c.self.invariant.few p.few small)
 
 -- an earlier refusal still bounds the limit
-still_below : (c : After-ask) → 0 < c.self.inside.refused → c.ask.new.self.limit < nodes_of_functions c.ask.new.self.vars (c.saturating_add-self-inside.result + 0)
+still_below : (c : After-ask) → 0 < c.self.inside.refused → c.ask.new.self.limit < nodes_of_functions c.ask.new.self.vars (c.saturating_add-self-inside.result + c.self.inside.taken)
 still_below c some =
     let old = c.self.inside.store in
     let p = c.ask.ensures.answers.progress in
-    let more : nodes_of_functions old.vars c.self.inside.asked ≤ nodes_of_functions old.vars (counted c.self.inside.asked 1) = nodes_of_functions-more old.vars c.self.inside.asked (omega arith) in
-    let none : c.self.inside.asked + 0 ≡ c.self.inside.asked = omega arith in
-    let before : old.limit < nodes_of_functions old.vars c.self.inside.asked = subst (λ k. old.limit < nodes_of_functions old.vars k) none (c.self.invariant.bounded some) in
-    below_with_none c.ask.new.self.limit c.ask.new.self.vars c.saturating_add-self-inside.result (rw (p.grows.limit, p.grows.vars, c.saturating_add-self-inside.ensures) (omega arith))
+    let before = c.self.invariant.bounded some in
+    let more = nodes_of_functions-more old.vars (c.self.inside.asked + c.self.inside.taken) (c.saturating_add-self-inside.result + c.self.inside.taken) (omega (arith, c.saturating_add-self-inside.ensures)) in
+    rw (p.grows.limit, p.grows.vars) (omega (arith, before, more))
 
-full_below : (c : After-ask) → length c.ask.new.self.nodes ≡ c.ask.new.self.limit → c.ask.new.self.limit < nodes_of_functions c.ask.new.self.vars (c.saturating_add-self-inside.result + 0)
+full_below : (c : After-ask) → length c.ask.new.self.nodes ≡ c.ask.new.self.limit → c.ask.new.self.limit < nodes_of_functions c.ask.new.self.vars (c.saturating_add-self-inside.result + c.self.inside.taken)
 full_below c full =
     let new = c.ask.new.self in
-    below_with_none new.limit new.vars c.saturating_add-self-inside.result
-    (limit_below new.vars c.saturating_add-self-inside.result new.limit new.nodes c.ask.ensures.answers.progress.region.reduced full (omega (arith, c.saturating_add-self-inside.ensures)) (few_now c))
+    limit_below new.vars (c.saturating_add-self-inside.result + c.self.inside.taken) new.limit new.nodes c.ask.ensures.answers.progress.region.reduced full
+    (omega (arith, c.saturating_add-self-inside.ensures)) (few_now c)
 
 valid_there : (c : After-ask) → IsThere (pool_of c.ask.new.self) c.self.inside.valid.0
 valid_there c = omega (arith, c.self.invariant.valid_there, c.ask.ensures.answers.progress.grows.extends.no_shorter)
@@ -70,6 +65,7 @@ returns-in-Err c =
       valid = refl;
       asked = c.saturating_add-self-inside.ensures;
       refused = c.saturating_add-self-inside-in-Err.ensures;
+      taken = refl;
       no_less_asked = omega (arith, c.saturating_add-self-inside.ensures);
       no_fewer_refused = omega (arith, c.saturating_add-self-inside-in-Err.ensures);
       answer = tt;
