@@ -30,3 +30,4 @@ pub mod LineNames
 pub mod CaseReadsBack
 pub mod ProperNames
 pub mod NamePlaces
+pub mod RunsOfEvidence

@@ -160,7 +160,7 @@ MayAsk s (TestRules case) (bytes ∷ []) a = OfCase (s.case_faults bytes) (read_
 MayAsk s (Report case) (bytes ∷ []) a = OfCase (s.case_faults bytes) (read_case bytes) (λ k. a ≡ asks_of_report k)
 MayAsk s (Audit bundle case) (bytes ∷ others ∷ []) a =
     OfBundle (bundle_in s bundle bytes) (λ d b. OfCase (s.case_faults others) (read_case others)
-        (λ k. a ≡ asks_of_audit b.model k (line_asks (feature_names b.line) d)))
+    (λ k. a ≡ asks_of_audit b.model k (line_asks (feature_names b.line) d)))
 MayAsk s (Workload number size) [] a = OfDocument (generated_bundle number size) (λ d b. BuildAsks d b a)
 MayAsk s t _ a = ⊥
 
