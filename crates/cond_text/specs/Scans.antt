@@ -9,7 +9,8 @@ use Rattle.cond_text.specs.declared.scan.ExprStop.{ExprStop}
 use Rattle.cond_text.specs.declared.scan.ExprStop.TheVariants.{Syntax, UnknownName}
 use Rattle.cond_text.specs.Tokens.{follow}
 use Rattle.cond_text.specs.Lexemes.{placed_from, StandsAt, IsBlankAt}
-use Rattle.cond_text.specs.Stops.{capped, Tells}
+use Rattle.meaning.specs.Counts.{capped}
+use Rattle.cond_text.specs.Stops.{Tells}
 
 abbrev pub next_of : CodeNext → Next
 next_of (Operand k) = an_operand k

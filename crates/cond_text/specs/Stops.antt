@@ -1,13 +1,10 @@
 -- The fault of a text as it is told.
-use Rattle.std.specs.Prelude.{◌≡◌, ℕ, min, Option, Some}
+use Rattle.std.specs.Prelude.{◌≡◌, ℕ, Option, Some}
+pub use Rattle.meaning.specs.Counts.{capped}
 use Rattle.meaning.specs.ExpressionFaults.{TextFault}
 use Rattle.meaning.specs.ExpressionFaults as faults
 use Rattle.cond_text.specs.declared.scan.ExprStop.{ExprStop}
 use Rattle.cond_text.specs.declared.scan.ExprStop.TheVariants.{Syntax, UnknownName, TooMany, NoMemory}
-
--- a place as it is told, which is a number of 32 bits
-abbrev pub capped : ℕ → ℕ
-capped at = min at 4294967295
 
 -- the fault is of the kind that is told, at the place that is told; want of memory tells nothing of the text
 abbrev pub Tells : ExprStop → Option TextFault → Type 0

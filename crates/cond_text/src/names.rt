@@ -1,6 +1,6 @@
 //! Lists of distinct names, numbered from 0.
 
-ghost use Rattle.std.specs.Prelude.{◌≡◌, ◌<◌, ◌++◌, ◌∷◌, [], length, slice_get, Some, IfOk, IfErr, OnErr, option_map};
+ghost use Rattle.std.specs.Prelude.{◌≡◌, ◌<◌, ◌++◌, ◌∷◌, [], length, slice_get, Some, None, IfOk, IfErr, OnErr, option_map};
 ghost use Rattle.meaning.specs.Texts.{place_of};
 ghost use Rattle.cond_text.specs.Lists.{Refuses, AreDistinct};
 ghost use Rattle.cond_text.specs.declared.names.NameStop.TheVariants.{NoMemory};
@@ -70,12 +70,20 @@ impl Names {
     {
         match self.find(name) {
             Some(no) => Err(NameStop::Repeated(no)),
-            None => {
-                let text = String::from_str(*self.texts.allocator(), name)?;
-                let (no, _) = self.texts.insert_full(text)?;
-                Ok(no as u16)
-            }
+            None => Ok(self.add_new(name)?),
         }
+    }
+
+    /// Adds a name that isn't there behind the others, and answers its number.
+    pub fn add_new(&mut self, name: &str) -> Result<u16, AllocError>
+        requires few { length self.old < 65535 }
+        requires new { place_of name.now self.old ≡ None }
+        ensures added { IfOk result (λ no. (no ≡ length self.old) × (self.new ≡ self.old ++ name.now ∷ [])) }
+        ensures kept { OnErr result (self.new ≡ self.old) }
+    {
+        let text = String::from_str(*self.texts.allocator(), name)?;
+        let (no, _) = self.texts.insert_full(text)?;
+        Ok(no as u16)
     }
 
     /// The number of a name, and `None` exactly where it isn't there.

@@ -5,7 +5,8 @@ ghost use Rattle.meaning.specs.Expressions as meaning;
 ghost use Rattle.meaning.specs.ExpressionFaults.{an_operand, may_end, expression_fault};
 ghost use Rattle.cond_text.specs.Tokens.{follow, with_words, Runs};
 ghost use Rattle.cond_text.specs.Scans.{next_of, opened_in, Steps, StopsAt, unknown_stop};
-ghost use Rattle.cond_text.specs.Stops.{capped, Tells};
+ghost use Rattle.meaning.specs.Counts.{capped};
+ghost use Rattle.cond_text.specs.Stops.{Tells};
 ghost use Rattle.cond_text.specs.declared.scan.ExprStop.TheVariants.{NoMemory};
 
 use crate::lexeme::{Lexeme, lexeme_at};

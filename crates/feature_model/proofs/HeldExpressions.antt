@@ -9,7 +9,8 @@ use Rattle.meaning.specs.LineRules.{expression_rules, expression_fault_at}
 use Rattle.meaning.specs.ExpressionFaults.{TextFault, expression_fault, place_of_form_fault, place_of_unknown_name, place_in_text}
 use Rattle.meaning.specs.ExpressionFaults as fault
 use Rattle.meaning.proofs.EmptyLists.{both_true}
-use Rattle.cond_text.specs.Stops.{capped, Tells}
+use Rattle.meaning.specs.Counts.{capped}
+use Rattle.cond_text.specs.Stops.{Tells}
 use Rattle.cond_text.specs.declared.scan.ExprStop.TheVariants.{Syntax, UnknownName, TooMany}
 use Rattle.feature_model.proofs.FaultPlaces.{fault_place}
 

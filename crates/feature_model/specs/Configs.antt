@@ -3,6 +3,7 @@ use Rattle.std.specs.Prelude.{◌≡◌, ℕ, List, Bool, true, false, Option, S
 use Rattle.std.specs.Prelude.{Result, Ok, Err}
 use Rattle.meaning.specs.Texts.{with_each, place_of}
 use Rattle.meaning.specs.Documents.{Document, as_text, as_list, member_of}
+use Rattle.meaning.specs.Counts.{capped}
 use Rattle.meaning.specs.Configurations.{Configuration, Refused, of_names}
 use Rattle.meaning.specs.Configurations as meaning
 use Rattle.feature_model.specs.declared.config.ConfigStop.{ConfigStop}
@@ -40,8 +41,8 @@ pub record WasMarked (features : List (List ℕ)) (before : List Bool) (name : L
 
 abbrev pub StopsMark : List (List ℕ) → List Bool → List ℕ → ℕ → ConfigStop → Type 0
 StopsMark features before name at NotList = ⊥
-StopsMark features before name at (UnknownFeature told) = (told ≡ at) × (place_of name features ≡ None)
-StopsMark features before name at (Repeated told) = (told ≡ at) × WasMarked features before name
+StopsMark features before name at (UnknownFeature told) = (told ≡ capped at) × (place_of name features ≡ None)
+StopsMark features before name at (Repeated told) = (told ≡ capped at) × WasMarked features before name
 StopsMark features before name at NoMemory = Unit {0}
 
 abbrev pub Marks : List (List ℕ) → List Bool → List ℕ → ℕ → Result (Unit {0}) ConfigStop → List Bool → Type 0

@@ -5,6 +5,7 @@ ghost use Rattle.std.specs.List.{list_all};
 ghost use Rattle.meaning.specs.BundlePlaces.{is_text_value};
 ghost use Rattle.std.specs.Option.{option_copied};
 ghost use Rattle.meaning.specs.Documents as meaning;
+ghost use Rattle.meaning.specs.Counts.{capped};
 ghost use Rattle.meaning.specs.Configurations.{World, of_names, world_of};
 ghost use Rattle.doc_tree.specs.View.{document, documents};
 ghost use Rattle.cond_text.specs.Lists.{AreDistinct};
@@ -15,7 +16,8 @@ use cond_text::Names;
 use doc_tree::{Doc, Row};
 use std::alloc::{AllocError, AllocFailed, Global};
 
-/// Why a document is no configuration of these features. A place counts the names of the list from 0.
+/// Why a document is no configuration of these features. A place counts the names of the list from 0,
+/// and past 4,294,967,295 it is told as that number.
 #[derive(Clone, Copy, Debug, PartialEq, Eq)]
 pub enum ConfigStop {
     /// The document has no list of texts under `features`.
@@ -24,7 +26,6 @@ pub enum ConfigStop {
     UnknownFeature(u32),
     /// The name at this place stands at an earlier one too.
     Repeated(u32),
-    /// There is no memory, or the list has more than 4,294,967,295 names.
     NoMemory,
 }
 
@@ -104,11 +105,11 @@ fn mark(world: &mut [bool], features: &Names, name: &str, at: usize) -> Result<(
     ensures { Marks features.now world.old name.now at result world.new }
 {
     match features.find(name) {
-        None => Err(ConfigStop::UnknownFeature(place(at)?)),
+        None => Err(ConfigStop::UnknownFeature(told_place(at))),
         Some(no) => {
             let no = usize::from(no);
             if world[no] {
-                return Err(ConfigStop::Repeated(place(at)?));
+                return Err(ConfigStop::Repeated(told_place(at)));
             }
             world[no] = true;
             Ok(())
@@ -117,12 +118,8 @@ fn mark(world: &mut [bool], features: &Names, name: &str, at: usize) -> Result<(
 }
 
 /// The place as it is told.
-fn place(at: usize) -> Result<u32, ConfigStop>
-    ensures ok { IfOk result (λ told. told ≡ at) }
-    ensures stop { IfErr result (λ stop. stop ≡ NoMemory) }
+fn told_place(at: usize) -> u32
+    ensures { result ≡ capped at }
 {
-    if at > 4_294_967_295 {
-        return Err(ConfigStop::NoMemory);
-    }
-    Ok(at as u32)
+    at.min(4_294_967_295) as u32
 }

@@ -196,24 +196,11 @@ fn grow(
     ensures alternatives { OnOk result (members_of alternatives.new.items
         ≡ with_child (members_of alternatives.old.items) (if is_alternative (group_view placed.group) then placed.parent else None) (length names.old)) }
 {
-    let child = number_of_new(names, name)?;
+    let child = names.add_new(name)?;
     places.push(placed)?;
     join(alloc, ors, or_parent(placed), child)?;
     join(alloc, alternatives, alternative_parent(placed), child)?;
     Ok(())
-}
-
-/// Adds a name, and gives its number.
-fn number_of_new(names: &mut Names, name: &str) -> Result<u16, NoMemory>
-    requires few { length names.old < 256 }
-    requires new { place_of name.now names.old ≡ None }
-    ensures names { IfOk result (λ no. names.new ≡ names.old ++ name.now ∷ []) }
-    ensures number { IfOk result (λ no. no ≡ length names.old) }
-{
-    match names.add(name) {
-        Ok(number) => Ok(number),
-        Err(_) => Err(NoMemory),
-    }
 }
 
 /// The parent in whose or-group the feature is.

@@ -4,6 +4,7 @@ ghost use Rattle.std.specs.Prelude.{◌≡◌, ◌≤◌, ◌+◌, ◌*◌, ◌+
 ghost use Rattle.meaning.specs.Texts.{first_of_list};
 ghost use Rattle.meaning.specs.Documents.{table, no_members};
 ghost use Rattle.meaning.specs.Features.{feature_names, line_of, line_from};
+ghost use Rattle.meaning.specs.BundlePlaces.{least_fault};
 ghost use Rattle.meaning.specs.LineRules.{line_in, has_features, line_faults};
 ghost use Rattle.meaning.specs.Bounds.{line_asks};
 ghost use Rattle.doc_tree.specs.View.{document};
@@ -37,12 +38,13 @@ impl From<NoMemory> for LineStop {
 impl Line {
     /// The line of a bundle document. A `line` that is absent or no table is read as an empty one.
     ///
-    /// The last clause ties the size of [`Line::expr`] to the document: 16 times the square of the features and one more, and 8 for each rule beside
+    /// The fault that is told is the least by part, item, sub and rule. The last clause ties the size of [`Line::expr`] to the document: 16 times the square of the features and one more, and 8 for each rule beside
     /// the size of its expression.
     #[tactic(auto, unfolding(meaning::specs::Features::line_of, meaning::specs::LineRules::line_faults))]
     pub fn read(alloc: Global, doc: &Doc) -> Result<Line, LineStop>
         ensures ok { IfOk result (λ line. (line_view line ≡ line_of (document doc.now)) × (line_faults (document doc.now) ≡ [])) }
         ensures fault { IfErr result (λ stop. TellsFault stop (first_of_list (line_faults (document doc.now)))) }
+        ensures least { IfErr result (λ stop. TellsFault stop (least_fault (line_faults (document doc.now)))) }
         ensures small { IfOk result (λ line. 1 + 40 * length line.features + constraints_size line
             ≤ line_asks (feature_names (line_view line)) (document doc.now)) }
     {

@@ -76,3 +76,4 @@ pub mod HolesFound
 pub mod ReplayLaws
 pub mod VerdictLaws
 pub mod RunDistances
+pub mod RunsOfEvidence

@@ -15,7 +15,7 @@ bounds-world-no-in-Some c =
 
 pub returns-then-world-no : goal.returns-then-world-no
 returns-then-world-no c = (
-  c.in_ok-place-in-Some.ensures.ok,
+  c.told_place-then-world-no.ensures,
   record { no = c.from-no.result; place = sym c.find.ensures ∙ c.in-Some.is ∙ ap Some (sym c.from-no.ensures); was = c.if-world-no.true },
 )
 

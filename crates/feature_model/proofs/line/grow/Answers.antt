@@ -10,8 +10,8 @@ join-requires-2 c = rw (c.alternative_parent.ensures) c.requires.alternatives
 
 pub returns-clause-ors : goal.returns-clause-ors
 returns-clause-ors c =
-    c.in_ok-join.ensures ∙ ap₂ (λ parent child. with_child (members_of c.args.ors.now.items) parent child) c.or_parent.ensures c.in_ok-child.ensures.number
+    c.in_ok-join.ensures ∙ ap₂ (λ parent child. with_child (members_of c.args.ors.now.items) parent child) c.or_parent.ensures c.in_ok-child.ensures.added.0
 
 pub returns-clause-alternatives : goal.returns-clause-alternatives
 returns-clause-alternatives c =
-    c.in_ok-join-2.ensures ∙ ap₂ (λ parent child. with_child (members_of c.args.alternatives.now.items) parent child) c.alternative_parent.ensures c.in_ok-child.ensures.number
+    c.in_ok-join-2.ensures ∙ ap₂ (λ parent child. with_child (members_of c.args.alternatives.now.items) parent child) c.alternative_parent.ensures c.in_ok-child.ensures.added.0
