@@ -1,6 +1,6 @@
 -- The first fault of lists of faults that stand behind one another.
 use Rattle.std.proofs.Common.{◌≡◌, refl, ap₂, ◌∙◌, ℕ, map, arith, List, [], ◌∷◌, ◌++◌}
-use Rattle.std.specs.Prelude.{Option, Some, None, option_map}
+use Rattle.std.specs.Prelude.{Option, Some, option_map}
 use Rattle.meaning.specs.Counts.{capped}
 use Rattle.meaning.specs.BundlePlaces.{Part}
 use Rattle.meaning.specs.Texts.{first_of_list}

@@ -1,5 +1,5 @@
 -- The numbers of states and systems in a document without faults fit into 16 bits.
-use Rattle.std.proofs.Common.{◌≡◌, refl, sym, ap, subst, ◌∙◌, ℕ, zero, suc, ◌+◌, ◌-◌, ◌<◌, ◌≤◌, ◌^◌, List, [], ◌∷◌, ◌++◌, map, length, arith}
+use Rattle.std.proofs.Common.{◌≡◌, refl, sym, subst, ℕ, zero, suc, ◌-◌, ◌≤◌, List, [], ◌∷◌, ◌++◌, map, length, arith}
 use Rattle.std.specs.Prelude.{Bool, true, false, not, ◌&&◌, ◌||◌, ◌==◌, nat_lt, if◌then◌else◌, Option, Some, None, IfSome, is_some, is_none, option_and_then, unwrap_or, codes}
 use Rattle.std.specs.List.{All, AllByRecursion, list_all, slice_get}
 use Rattle.std.proofs.lemmas.Bool.Decides.{nat_tests}
@@ -16,7 +16,7 @@ use Rattle.doc_tree.specs.View.{document, documents}
 use Rattle.lifted_case.specs.ReadFaults.{size_at, systems_past, states_at, targets_fit, witnesses_alone, finding_members_fit, finding_of_kind_fits, kind_at, node_members_fit, joins_states, lists_fit, faults_in}
 use Rattle.lifted_case.specs.SmallNumbers.{IsNarrow, TargetIsNarrow, FindingIsNarrow, NodeIsNarrow, TransitionIsNarrow, SystemIsNarrow}
 use Rattle.lifted_case.proofs.KeptRules.{append_none, four_none, items_none, both_hold, none_fails, all_held, less}
-use Rattle.lifted_case.proofs.CasesRead.{NoFaults, no_faults}
+use Rattle.lifted_case.proofs.CasesRead.{no_faults}
 
 -- ---- what is within the limits
 

@@ -1,4 +1,3 @@
-use Rattle.std.proofs.Common.{map}
 use Rattle.doc_tree.specs.View.{document}
 use Rattle.lifted_case.specs.declared.lifted.ReadCase.{ReadCase}
 use Rattle.lifted_case.proofs.CasesRead.{rules_kept, document_is}

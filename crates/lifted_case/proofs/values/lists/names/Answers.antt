@@ -1,5 +1,5 @@
 use Rattle.std.proofs.Common.{◌≡◌, [], ◌∷◌, ◌++◌, ◌+◌, false, sym, ap, subst, ◌∙◌, drop}
-use Rattle.std.specs.Prelude.{bytes_eq, None}
+use Rattle.std.specs.Prelude.{bytes_eq}
 use Rattle.std.specs.List.{list_any}
 use Rattle.meaning.specs.Documents.{texts_in}
 use Rattle.doc_tree.specs.View.{documents}
