@@ -30,11 +30,11 @@ four_none a b c d e =
     let one = append_none a b two.0 in
     (one.0, one.1, two.1, three.1)
 
-items_none : (fault : ℕ) (part : Part) (items : List ℕ) → faults_at fault part items ≡ [] → items ≡ []
+pub items_none : (fault : ℕ) (part : Part) (items : List ℕ) → faults_at fault part items ≡ [] → items ≡ []
 items_none fault part [] e = refl
 items_none fault part (i ∷ is) e = cc
 
-both_hold : (a b : Bool) → (a && b) ≡ true → (a ≡ true) × (b ≡ true)
+pub both_hold : (a b : Bool) → (a && b) ≡ true → (a ≡ true) × (b ≡ true)
 both_hold true b e = (refl, e)
 both_hold false b e = cc
 
@@ -48,7 +48,7 @@ none_fail_from test k (x ∷ xs) e = go (test x) refl (none_fail_from test (k + 
     go true is later none = rw is (later none)
     go false is later none = cc
 
-none_fails : {A : Type 0} (fault : ℕ) (part : Part) (test : A → Bool) (xs : List A) → faults_at fault part (failing test xs) ≡ [] → list_all test xs ≡ true
+pub none_fails : {A : Type 0} (fault : ℕ) (part : Part) (test : A → Bool) (xs : List A) → faults_at fault part (failing test xs) ≡ [] → list_all test xs ≡ true
 none_fails fault part test xs e = none_fail_from test 0 xs (items_none fault part (failing test xs) e)
 
 pub within : (fault : ℕ) (part : Part) (limit n : ℕ) → faults_at fault part (past limit n) ≡ [] → n ≤ limit
@@ -58,7 +58,7 @@ within fault part limit n e = go (nat_lt limit n) refl (items_none fault part (p
     go true is none = cc
     go false is none = grind (arith, nat_tests)
 
-holds_alone : (fault : ℕ) (part : Part) (b : Bool) → faults_at fault part (unless b) ≡ [] → b ≡ true
+pub holds_alone : (fault : ℕ) (part : Part) (b : Bool) → faults_at fault part (unless b) ≡ [] → b ≡ true
 holds_alone fault part true e = refl
 holds_alone fault part false e = cc
 
@@ -68,12 +68,12 @@ all_of test P view holds (x ∷ xs) e =
     let parts = both_hold (test (view x)) (list_all test (map view xs)) e in
     All-cons P x xs (holds x parts.0) (all_of test P view holds xs parts.1)
 
-all_held : {A : Type 0} (test : A → Bool) (P : A → Type 0) → ((x : A) → test x ≡ true → P x) → (xs : List A) → list_all test xs ≡ true → All P xs
+pub all_held : {A : Type 0} (test : A → Bool) (P : A → Type 0) → ((x : A) → test x ≡ true → P x) → (xs : List A) → list_all test xs ≡ true → All P xs
 all_held test P holds [] e = All-nil P
 all_held test P holds (x ∷ xs) e =
     let parts = both_hold (test x) (list_all test xs) e in All-cons P x xs (holds x parts.0) (all_held test P holds xs parts.1)
 
-less : (n m : ℕ) → nat_lt n m ≡ true → n < m
+pub less : (n m : ℕ) → nat_lt n m ≡ true → n < m
 less n m e = grind (arith, nat_tests)
 
 -- ---- the rules, where the table has so many rows

@@ -1,5 +1,6 @@
 pub mod FirstFault
 pub mod CasesRead
+pub mod SmallNumbers
 pub mod KeptRules
 pub mod FaultLaws
 pub mod SeenNames

@@ -7,3 +7,4 @@ pub mod CaseContents
 pub mod CaseIds
 pub mod CaseMembers
 pub mod CaseMaps
+pub mod SmallNumbers

@@ -75,6 +75,6 @@ fn export(alloc: Global, d: &Diagrams, roots: &[Cond]) -> Result<(Table, Row<u32
 {
     match d.export(alloc, roots) {
         Ok(exported) => Ok(exported),
-        Err(_) => Err(NoMemory),
+        Err(conditions::NoMemory) => Err(NoMemory),
     }
 }

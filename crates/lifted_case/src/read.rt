@@ -1,14 +1,15 @@
 //! From bytes to a case.
 
-ghost use Rattle.std.specs.Prelude.{◌≡◌, ◌≤◌, [], Some, map, length, codes, IfOk, IfErr, Err};
+ghost use Rattle.std.specs.Prelude.{◌≡◌, [], true, Some, map, length, codes, IfOk, IfErr, Err};
 ghost use Rattle.meaning.specs.CaseReading as reading;
-ghost use Rattle.meaning.specs.CaseReading.{Is, Broken, case_document_of};
+ghost use Rattle.meaning.specs.CaseReading.{Is, Broken, case_document_of, has_list};
 ghost use Rattle.meaning.specs.Documents.{list_at, text_at, texts_in};
 ghost use Rattle.doc_tree.specs.View.{document};
+ghost use Rattle.conditions.specs.TableRows.{bad_rows};
 ghost use Rattle.conditions.specs.Tables.{case_rows};
 ghost use Rattle.lifted_case.specs.CaseView.{case_document_of_read, case_node_of, case_relation_of, case_system_of, fault_view};
 ghost use Rattle.lifted_case.specs.CaseRules.{KeepsCaseRules};
-ghost use Rattle.lifted_case.specs.ReadFaults.{faults_in, size_at, TellsReading};
+ghost use Rattle.lifted_case.specs.ReadFaults.{faults_in, TellsReading};
 
 use crate::faults::check;
 use crate::lifted::{CaseFault, LNode, LRel, LSystem, Lifted, ReadCase};
@@ -18,7 +19,7 @@ use crate::values::lists::names;
 use crate::values::nodes::{nodes, relations};
 use crate::values::systems::systems;
 use cond_text::Names;
-use conditions::{Table, read_table};
+use conditions::{Table, TableStop, read_table};
 use doc_tree::{Doc, DocStop, NoMemory, Part, Row, Word, from_json};
 use std::alloc::Global;
 
@@ -31,7 +32,7 @@ const NO_CASE: CaseFault = CaseFault {
 };
 
 /// The case that the bytes are, which are JSON (RFC 8259), or the first rule of case files that they break: the least by its number, then
-/// by the place. A document with a fault at an item whose number is above 4,294,967,295 is answered as one that the memory doesn't hold.
+/// by the place. An item past 4,294,967,295 is told as that number. `NoMemory` comes only where the memory doesn't hold what is read.
 pub fn read_case(alloc: Global, bytes: &[u8]) -> Result<ReadCase, ReadCaseStop>
     ensures ok { IfOk result (λ c. reading.read_case bytes.now ≡ Is (case_document_of_read c)) }
     ensures rules { IfOk result KeepsCaseRules }
@@ -85,7 +86,9 @@ struct Items {
     systems: Row<LSystem<u32>>,
 }
 
+/// What a document without faults has beside them.
 fn read_items(alloc: Global, doc: &Doc) -> Result<Items, NoMemory>
+    requires { faults_in (document doc.now) ≡ [] }
     ensures title { IfOk result (λ i. i.title ≡ text_at (codes "title") (document doc.now)) }
     ensures nodes { IfOk result (λ i. map case_node_of i.nodes ≡ map reading.node_of (list_at (codes "nodes") (document doc.now))) }
     ensures relations { IfOk result (λ i. map case_relation_of i.relations ≡ map reading.relation_of (list_at (codes "relations") (document doc.now))) }
@@ -99,9 +102,9 @@ fn read_items(alloc: Global, doc: &Doc) -> Result<Items, NoMemory>
     })
 }
 
-/// The features of a document, and its table over them.
+/// The features of a document without faults, and its table over them.
 fn features_and_table(alloc: Global, doc: &Doc) -> Result<(Names, Table), NoMemory>
-    requires { size_at (codes "features") (document doc.now) ≤ 256 }
+    requires { faults_in (document doc.now) ≡ [] }
     ensures features { IfOk result (λ x. x.0 ≡ texts_in (list_at (codes "features") (document doc.now))) }
     ensures rows { IfOk result (λ x. case_rows x.1.rows ≡ map reading.row_of (list_at (codes "table") (document doc.now))) }
     ensures over { IfOk result (λ x. x.1.features ≡ length x.0) }
@@ -111,16 +114,24 @@ fn features_and_table(alloc: Global, doc: &Doc) -> Result<(Names, Table), NoMemo
     Ok((features, table))
 }
 
-/// The table of a document over so many features. One without faults has a table, so that none is refused but for want of memory.
+/// The table of a document over so many features, where it has one whose rows break no rule.
 fn table(alloc: Global, doc: &Doc, features: u16) -> Result<Table, NoMemory>
+    requires there { has_list (codes "table") (document doc.now) ≡ true }
+    requires faultless { bad_rows features (list_at (codes "table") (document doc.now)) ≡ [] }
     ensures rows { IfOk result (λ t. case_rows t.rows ≡ map reading.row_of (list_at (codes "table") (document doc.now))) }
     ensures features { IfOk result (λ t. t.features ≡ features) }
 {
     let Some(table) = doc.member("table") else {
-        return Err(NoMemory);
+        unreachable!()
     };
     match read_table(alloc, table, features) {
         Ok(table) => Ok(table),
-        Err(_) => Err(NoMemory),
+        Err(TableStop::NoMemory) => Err(NoMemory),
+        Err(
+            TableStop::NotTriple(_)
+            | TableStop::NotOrdered(_)
+            | TableStop::NotReduced(_)
+            | TableStop::Repeated(_),
+        ) => unreachable!(),
     }
 }

@@ -4,6 +4,7 @@ ghost use Rattle.std.specs.Prelude.{◌≡◌, ℕ, List, [], ◌∷◌, Bool, I
 ghost use Rattle.std.specs.List.{list_all};
 ghost use Rattle.meaning.specs.Texts.{first_of_list};
 ghost use Rattle.meaning.specs.Documents.{Document, list_at, member_of};
+ghost use Rattle.meaning.specs.Counts.{capped};
 ghost use Rattle.meaning.specs.CaseReading.{failing, faults_at, unless};
 ghost use Rattle.meaning.specs.CaseReading as reading;
 ghost use Rattle.doc_tree.specs.View.{document, documents};
@@ -87,19 +88,23 @@ pub fn check_that(fault: u8, part: Part, holds: bool) -> Result<(), ReadCaseStop
     }
 }
 
-/// The fault at an item, if its place can be told: a document of more than 4,294,967,295 items is answered as one that the memory doesn't hold.
-pub fn fault_at(fault: u8, part: Part, item: usize) -> ReadCaseStop
-    ensures { Finds (record { fault = fault; part = part_of part; item = item } ∷ []) result }
+/// An item's number as it is told: past 4,294,967,295 it is that number.
+fn told(item: usize) -> u32
+    ensures { result ≡ capped item }
 {
-    match u32::try_from(item) {
-        Ok(item) => ReadCaseStop::Fault(CaseFault {
-            fault,
-            part,
-            item,
-            sub: 0,
-        }),
-        Err(_) => ReadCaseStop::NoMemory,
-    }
+    u32::try_from(item).unwrap_or(u32::MAX)
+}
+
+/// The fault at an item.
+pub fn fault_at(fault: u8, part: Part, item: usize) -> ReadCaseStop
+    ensures { result ≡ ReadCaseStop.Fault (record { fault = fault; part = part; item = capped item; sub = 0 }) }
+{
+    ReadCaseStop::Fault(CaseFault {
+        fault,
+        part,
+        item: told(item),
+        sub: 0,
+    })
 }
 
 /// Whether the value is a list whose items all pass.

@@ -16,9 +16,16 @@ pub fn check_table(alloc: Global, doc: &Doc) -> Result<(), ReadCaseStop>
     ensures kept { IfOk result (λ _. table_faults_in (document doc.now) ≡ []) }
     ensures fault { IfErr result (Finds (table_faults_in (document doc.now))) }
 {
-    let place = match first_bad_row(alloc, size_at(doc, "features"), doc.list_at("table"))? {
+    let row = first_bad_row(alloc, size_at(doc, "features"), doc.list_at("table"))?;
+    check_place(5, Part::Table, place_of(row))
+}
+
+/// The place of a row, if there is one.
+fn place_of(row: Option<u32>) -> Option<usize>
+    ensures { result ≡ row }
+{
+    match row {
         Some(row) => Some(row as usize),
         None => None,
-    };
-    check_place(5, Part::Table, place)
+    }
 }

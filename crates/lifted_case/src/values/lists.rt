@@ -1,27 +1,42 @@
 //! The lists of a case: names, texts, identifiers, and the pairs of findings and systems.
 
-ghost use Rattle.std.specs.Prelude.{◌≡◌, ◌≤◌, [], IfOk, length, map};
+ghost use Rattle.std.specs.Prelude.{◌≡◌, ◌<◌, ◌≤◌, [], ◌∷◌, ◌++◌, false, None, IfOk, OnOk, length, map, bytes_eq};
+ghost use Rattle.std.specs.List.{All, list_any};
 ghost use Rattle.meaning.specs.Documents.{texts_in};
 ghost use Rattle.meaning.specs.CaseReading as reading;
 ghost use Rattle.doc_tree.specs.View.{document, documents};
 ghost use Rattle.lifted_case.specs.CaseView.{case_part_of};
+ghost use Rattle.lifted_case.specs.ReadFaults.{first_bad_after};
+ghost use Rattle.lifted_case.specs.SmallNumbers.{IsNarrow, TargetIsNarrow, TransitionIsNarrow};
 
 use crate::lifted::LPart;
 use crate::members::{as_natural, first_list, nth_natural, nth_text, text_of};
-use cond_text::Names;
+use cond_text::{NameStop, Names};
 use doc_tree::{Doc, NoMemory, Row, Word};
 use std::alloc::Global;
 
-/// The names of the features. A list without faults has each once, so that no name is refused but for want of memory.
+/// Adds a name behind the others, which is none of them.
+fn add_new(names: &mut Names, name: &str) -> Result<(), NoMemory>
+    requires few { length names.old < 65535 }
+    requires new { list_any (bytes_eq name.now) names.old ≡ false }
+    ensures { OnOk result (names.new ≡ names.old ++ name.now ∷ []) }
+{
+    match names.add(name) {
+        Ok(_) => Ok(()),
+        Err(NameStop::Repeated(_)) => unreachable!(),
+        Err(NameStop::NoMemory) => Err(NoMemory),
+    }
+}
+
+/// The names of the features, each of which stands once.
 pub fn names(alloc: Global, items: &[Doc]) -> Result<Names, NoMemory>
-    requires { length items.now ≤ 256 }
+    requires few { length items.now ≤ 256 }
+    requires new { first_bad_after [] 0 (texts_in (documents items.now)) ≡ None }
     ensures { IfOk result (λ names. names ≡ texts_in (documents items.now)) }
 {
     let mut names = Names::new(alloc);
     'items: for item in items {
-        let Ok(_) = names.add(text_of(item)) else {
-            return Err(NoMemory);
-        };
+        add_new(&mut names, text_of(item))?;
     }
     Ok(names)
 }
@@ -69,31 +84,31 @@ pub fn pieces(alloc: Global, items: &[Doc]) -> Result<Row<LPart>, NoMemory>
     Ok(Row::of(pieces))
 }
 
-/// The number as one of 16 bits. A number of a state or a system without faults is below 65,536, so that none is refused.
-pub fn narrow(number: u32) -> Result<u16, NoMemory>
-    ensures { IfOk result (λ narrow. narrow ≡ number) }
+/// The number of a state or a system as one of 16 bits.
+pub fn narrow(number: u32) -> u16
+    requires { IsNarrow number }
+    ensures { result ≡ number }
 {
-    match u16::try_from(number) {
-        Ok(narrow) => Ok(narrow),
-        Err(_) => Err(NoMemory),
-    }
+    number as u16
 }
 
 /// A target of a finding.
-fn target(item: &Doc) -> Result<(u16, u32), NoMemory>
-    ensures { IfOk result (λ target. target ≡ reading.target_of (document item.now)) }
+fn target(item: &Doc) -> (u16, u32)
+    requires { TargetIsNarrow (document item.now) }
+    ensures { result ≡ reading.target_of (document item.now) }
 {
-    let state = narrow(nth_natural(item, 0).unwrap_or(0))?;
-    Ok((state, nth_natural(item, 1).unwrap_or(0)))
+    let state = narrow(nth_natural(item, 0).unwrap_or(0));
+    (state, nth_natural(item, 1).unwrap_or(0))
 }
 
 /// The targets of a finding.
 pub fn targets(alloc: Global, items: &[Doc]) -> Result<Row<(u16, u32)>, NoMemory>
+    requires { All (λ item. TargetIsNarrow (document item)) items.now }
     ensures { IfOk result (λ targets. targets ≡ map reading.target_of (documents items.now)) }
 {
     let mut targets = Vec::new(alloc);
     'items: for item in items {
-        targets.push(target(item)?)?;
+        targets.push(target(item))?;
     }
     Ok(Row::of(targets))
 }
@@ -119,16 +134,18 @@ pub fn witnesses(alloc: Global, items: &[Doc]) -> Result<Row<(Row<Word>, u32)>, 
 
 /// A transition of a system.
 fn transition(alloc: Global, item: &Doc) -> Result<(u16, u16, Word), NoMemory>
+    requires { TransitionIsNarrow (document item.now) }
     ensures { IfOk result (λ transition. transition ≡ reading.transition_of (document item.now)) }
 {
-    let from = narrow(nth_natural(item, 0).unwrap_or(0))?;
-    let to = narrow(nth_natural(item, 1).unwrap_or(0))?;
+    let from = narrow(nth_natural(item, 0).unwrap_or(0));
+    let to = narrow(nth_natural(item, 1).unwrap_or(0));
     let action = Word::of(alloc, nth_text(item, 2).unwrap_or(""))?;
     Ok((from, to, action))
 }
 
 /// The transitions of a system.
 pub fn transitions(alloc: Global, items: &[Doc]) -> Result<Row<(u16, u16, Word)>, NoMemory>
+    requires { All (λ item. TransitionIsNarrow (document item)) items.now }
     ensures { IfOk result (λ transitions. transitions ≡ map reading.transition_of (documents items.now)) }
 {
     let mut transitions = Vec::new(alloc);

@@ -1,11 +1,13 @@
 //! The nodes of a case, and its relations.
 
 ghost use Rattle.std.specs.Prelude.{◌≡◌, IfOk, map, option_map, codes};
-ghost use Rattle.meaning.specs.Documents.{member_of};
+ghost use Rattle.std.specs.List.{All};
+ghost use Rattle.meaning.specs.Documents.{member_of, natural_at};
 ghost use Rattle.meaning.specs.CaseReading as reading;
 ghost use Rattle.gsn.specs.View.{relation_kind_of};
 ghost use Rattle.doc_tree.specs.View.{document, documents};
 ghost use Rattle.lifted_case.specs.CaseView.{check_of, finding_of, case_node_of, case_relation_of};
+ghost use Rattle.lifted_case.specs.SmallNumbers.{IsNarrow, FindingIsNarrow, NodeIsNarrow};
 
 use crate::lifted::{LCheck, LFinding, LNode, LRel};
 use crate::members::natural_at;
@@ -17,21 +19,23 @@ use std::alloc::Global;
 
 /// What a finding checks.
 fn check(alloc: Global, doc: &Doc) -> Result<LCheck, NoMemory>
+    requires { IsNarrow (natural_at (codes "system") (document doc.now)) }
     ensures { IfOk result (λ check. check_of check ≡ (reading.finding_of (document doc.now)).check) }
 {
     match check_named(doc.text_at("check")) {
         Some(CheckWord::Never) => {
-            let system = narrow(natural_at(doc, "system"))?;
+            let system = narrow(natural_at(doc, "system"));
             let property = Word::of(alloc, doc.text_at("expr"))?;
             Ok(LCheck::Never(system, property))
         }
-        Some(CheckWord::Deadlock) => Ok(LCheck::NoDeadlock(narrow(natural_at(doc, "system"))?)),
+        Some(CheckWord::Deadlock) => Ok(LCheck::NoDeadlock(narrow(natural_at(doc, "system")))),
         Some(CheckWord::NoAnswer) | None => Ok(LCheck::NoAnswer),
         Some(CheckWord::SomeAnswer) => Ok(LCheck::SomeAnswer),
     }
 }
 
 fn finding(alloc: Global, doc: &Doc) -> Result<LFinding<u32>, NoMemory>
+    requires { FindingIsNarrow (document doc.now) }
     ensures { IfOk result (λ finding. finding_of finding ≡ reading.finding_of (document doc.now)) }
 {
     Ok(LFinding {
@@ -44,6 +48,7 @@ fn finding(alloc: Global, doc: &Doc) -> Result<LFinding<u32>, NoMemory>
 
 /// The finding of a node, if it has one.
 fn finding_at(alloc: Global, node: &Doc) -> Result<Option<LFinding<u32>>, NoMemory>
+    requires { NodeIsNarrow (document node.now) }
     ensures { IfOk result (λ f. option_map finding_of f ≡ option_map reading.finding_of (member_of (codes "finding") (document node.now))) }
 {
     match node.member("finding") {
@@ -53,6 +58,7 @@ fn finding_at(alloc: Global, node: &Doc) -> Result<Option<LFinding<u32>>, NoMemo
 }
 
 fn node(alloc: Global, doc: &Doc) -> Result<LNode<u32>, NoMemory>
+    requires { NodeIsNarrow (document doc.now) }
     ensures { IfOk result (λ node. case_node_of node ≡ reading.node_of (document doc.now)) }
 {
     Ok(LNode {
@@ -67,6 +73,7 @@ fn node(alloc: Global, doc: &Doc) -> Result<LNode<u32>, NoMemory>
 }
 
 pub fn nodes(alloc: Global, docs: &[Doc]) -> Result<Row<LNode<u32>>, NoMemory>
+    requires { All (λ doc. NodeIsNarrow (document doc)) docs.now }
     ensures { IfOk result (λ nodes. map case_node_of nodes ≡ map reading.node_of (documents docs.now)) }
 {
     let mut nodes = Vec::new(alloc);

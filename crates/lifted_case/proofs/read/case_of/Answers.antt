@@ -1,11 +1,7 @@
-use Rattle.std.proofs.Common.{map}
 use Rattle.doc_tree.specs.View.{document}
 use Rattle.lifted_case.specs.declared.lifted.ReadCase.{ReadCase}
-use Rattle.lifted_case.proofs.CasesRead.{few_features, rules_kept, document_is}
+use Rattle.lifted_case.proofs.CasesRead.{rules_kept, document_is}
 use Rattle.lifted_case.proofs.read.case_of.Goals as goal
-
-pub features_and_table-requires : goal.features_and_table-requires
-features_and_table-requires c = few_features (document c.args.doc.now) c.requires
 
 pub returns-clause-document : goal.returns-clause-document
 returns-clause-document c =
