@@ -2,6 +2,7 @@ pub mod GrammarLaw
 pub mod ReadsComplete
 pub mod ReadsGrammar
 pub mod GrammarPrefixes
+pub mod ExpressionPlaces
 pub mod ExpressionTexts
 pub mod ExpressionsPass
 pub mod StandsStill

@@ -4,6 +4,7 @@ pub mod Documents
 pub mod BundlePlaces
 pub mod Expressions
 pub mod ExpressionFaults
+pub mod FaultPlaces
 pub mod Features
 pub mod LineRules
 pub mod Models
