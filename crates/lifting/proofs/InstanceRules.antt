@@ -25,8 +25,11 @@ use Rattle.lifted_case.specs.CaseContents.{NodeKeepsRules, RelationKeepsRules, S
 use Rattle.lifting.specs.Lifting.{Seen}
 use Rattle.lifting.specs.Noted.{Noted, there_at, seen_at, Stands, relation_of, entries_of}
 use Rattle.lifting.specs.LiftedInstances.{IsLiftedInstance}
-use Rattle.lifting.specs.FittingTemplates.{TemplatesFit}
-use Rattle.lifting.specs.FittingBundles.{ModelHasTexts}
+use Rattle.annotated_model.specs.ModelFacts.{KeepsRules}
+use Rattle.templates.specs.ReadOver.{AreRead}
+use Rattle.lifting.specs.FittingTemplates.{TemplatesFit, HaveNoSolutions}
+use Rattle.lifting.proofs.ReadTemplates.{read_over_fit}
+use Rattle.annotated_model.specs.ModelTexts.{ModelHasTexts}
 use Rattle.lifting.specs.KeySteps.{IsSmall}
 use Rattle.lifting.proofs.CaseTexts.{joined_are_texts, parts_are_joined}
 use Rattle.lifting.proofs.InstanceTexts.{IsOfTemplate, of_templates}
@@ -230,3 +233,23 @@ module _ {C : Type 0} (a : Algebra C) (title : List ℕ) (features : List (List 
     few_nodes = few_case_nodes;
     few_relations = few_case_relations;
   }
+
+-- ---- templates that were read
+
+-- the instance of templates that were read, with what writing it asks
+pub record IsWritable {C : Type 0} (a : Algebra C) (title : List ℕ) (features : List (List ℕ)) (m : Model) (templates : List Template) (case : Lifted C) : Type 0 where
+  pub lifted : IsLiftedInstance a title features m templates case
+  pub contents : is_text title ≡ true → bad_names features ≡ [] → length features ≤ 256 → BreaksNoRule case
+  pub texts : TextsAreJoined case
+
+pub writable : {C : Type 0} (a : Algebra C) (title : List ℕ) (features : List (List ℕ)) (m : Model) (listed templates : List Template) (case : Lifted C) → listed ≡ templates
+    → AreRead templates → HaveNoSolutions templates → KeepsRules m → ModelHasTexts m → IsLiftedInstance a title features m listed case → IsWritable a title features m templates case
+writable a title features m listed templates case same read unsolved rules texts h =
+    let fit : TemplatesFit templates = read_over_fit templates read unsolved in
+    let few : length m.elements ≤ 2 ^ 64 = omega (arith, rules.few_elements) in
+    let lifted : IsLiftedInstance a title features m templates case = subst (λ ts. IsLiftedInstance a title features m ts case) same h in
+    record {
+      lifted = lifted;
+      contents = instance_keeps_rules a title features m templates case fit texts few lifted;
+      texts = instance_is_joined a title features m templates case fit texts few lifted;
+    }

@@ -12,7 +12,7 @@ use Rattle.meaning.proofs.EmptyLists.{all_true}
 use Rattle.meaning.proofs.CutTrees.{Each}
 use Rattle.meaning.proofs.EachMembers.{each_filtered}
 use Rattle.lifting.specs.FittingTemplates.{IsTextPart}
-use Rattle.lifting.specs.FittingBundles.{ModelHasTexts}
+use Rattle.annotated_model.specs.ModelTexts.{ModelHasTexts}
 use Rattle.lifting.proofs.EqualityTests.{none_is_some, some_is}
 
 module _ (P : Element → Type 0) where

@@ -26,7 +26,10 @@ use Rattle.meaning.proofs.ProperNames.{proper_names}
 use Rattle.annotated_model.proofs.TypeLaws.{where_formed_none, requires_none}
 use Rattle.annotated_model.proofs.RulesKept.{no_faults_at}
 use Rattle.lifting.specs.FittingTemplates.{TemplatesFit}
-use Rattle.lifting.specs.FittingBundles.{ModelHasTexts, BundleFits}
+use Rattle.annotated_model.specs.ModelTexts.{ModelHasTexts}
+use Rattle.annotated_model.proofs.TextsRead.{model_has_texts}
+use Rattle.annotated_model.proofs.ModelLaws.{model_keeps_rules}
+use Rattle.lifting.specs.FittingBundles.{BundleFits}
 use Rattle.lifting.proofs.Lists.{each_of_all}
 use Rattle.lifting.proofs.Pairs.{each_of_map}
 
@@ -108,92 +111,6 @@ pub names_of_line : (d : Document) → feature_names (line_of d) ≡ feature_nam
 unfolding line_of
 names_of_line d = map_of_map (λ f. f.name) _ (features_in d)
 
--- ---- the texts of the elements
-
--- a value of a table all of whose values pass a test
-module _ (k : List ℕ) (test : List ℕ → Bool) (empty : test [] ≡ true) where
-  in_members : (ms : Members) → list_all (λ e. test (label_text e.1)) (entries ms) ≡ true → test (unwrap_or (option_and_then as_text (value_of k ms)) []) ≡ true
-  in_members no_members a = empty
-  in_members (member l d ms) a = go (bytes_eq k l) (in_members ms (both_true (test (label_text d)) _ a).1)
-    where
-      go : (b : Bool) → test (unwrap_or (option_and_then as_text (value_of k ms)) []) ≡ true
-          → test (unwrap_or (option_and_then as_text (if b then Some d else value_of k ms)) []) ≡ true
-      go true e = (both_true (test (label_text d)) _ a).0
-      go false e = e
-
-  value_passes : (d : Document) → list_all (λ e. test (label_text e.1)) (each_of entries (as_table d)) ≡ true → test (text_at k d) ≡ true
-  value_passes d all = go (as_table d) all
-    where
-      go : (o : Option Members) → list_all (λ e. test (label_text e.1)) (each_of entries o) ≡ true → test (unwrap_or (option_and_then as_text (option_and_then (value_of k) o)) []) ≡ true
-      go None a = empty
-      go (Some ms) a = in_members ms a
-
-record ElementHasTexts (d : Document) : Type 0 where
-  name : is_name (name_in d) ≡ true
-  texts : element_texts_fit d ≡ true
-
-record ElementIsRead (e : ℕ × Document) : Type 0 where
-  has_texts : ElementHasTexts e.1
-  within : is_within 2048 e.0 ≡ true
-
-element_read : (c : ModelContext) (e : ℕ × Document) → element_rules c e ≡ [] → ElementIsRead e
-unfolding element_rules
-element_read c e none =
-    let form = (where_formed_none (element_form c e) _ none).0 in
-    let one = requires 2 (element_has_form e.1) in
-    let two = requires 3 (is_name (name_in e.1)) in
-    let three = requires 4 (element_texts_fit e.1) in
-    let four = requires 5 (is_new_name (names_in c (codes "elements")) e.0 (name_in e.1)) in
-    let five = requires 6 (is_within 2048 e.0) in
-    let last = nothing_left (((one ++ two) ++ three) ++ four) five form in
-    let fourth = nothing_left ((one ++ two) ++ three) four last.0 in
-    let third = nothing_left (one ++ two) three fourth.0 in
-    let second = nothing_left one two third.0 in
-    record { has_texts = record { name = requires_none 3 _ second.1; texts = requires_none 4 _ third.1 }; within = requires_none 6 _ last.1 }
-
-module _ (features : List (List ℕ)) (bundle : Document) (none : model_faults features bundle ≡ []) where
-  abbrev c : ModelContext
-  c = context_of features (model_in bundle)
-
-  elements_unbroken : faults_in_list (context_of features (model_in bundle)) Elements (codes "elements") (element_rules (context_of features (model_in bundle))) ≡ []
-  unfolding model_faults
-  elements_unbroken =
-      let owners = nothing_left _ _ none in
-      let transitions = nothing_left _ _ owners.0 in
-      let states = nothing_left _ _ transitions.0 in
-      let systems = nothing_left _ _ states.0 in
-      let links = nothing_left _ _ systems.0 in
-      (nothing_left _ _ links.0).1
-
-  each_read : Each ElementIsRead (numbered (list_at (codes "elements") (model_in bundle)))
-  each_read =
-      each_by (λ e. element_rules c e ≡ []) ElementIsRead (element_read c) (numbered (list_at (codes "elements") (model_in bundle)))
-      (each_unbroken Elements (element_rules c) 0 (list_at (codes "elements") (model_in bundle)) (nothing_left (faults_at Elements 0 0 _) _ elements_unbroken).1)
-
-  each_element : Each ElementHasTexts (list_at (codes "elements") (model_in bundle))
-  each_element = each_without_number ElementHasTexts 0 _ (each_by ElementIsRead (λ e. ElementHasTexts e.1) (λ e r. r.has_texts) _ each_read)
-
-  attribute_is_text : (d : Document) → element_texts_fit d ≡ true → (a : List ℕ) → is_text (text_at a (table_at (codes "attributes") d)) ≡ true
-  attribute_is_text d e a =
-      (both_true (is_text (text_at a (table_at (codes "attributes") d))) _
-      (value_passes a (text_within 128) refl (table_at (codes "attributes") d) (both_true (member_within 4096 (codes "when") d) _ e).1)).0
-
-  -- the names and the attributes of the elements that are read are texts
-  pub model_has_texts : ModelHasTexts (model_of features bundle)
-  unfolding model_of
-  model_has_texts = record {
-    names = each_of_map (λ e. is_text e.name ≡ true) _ _ (each_by ElementHasTexts _ (λ d t. name_is_text (name_in d) t.name) _ each_element);
-    attributes =
-        each_of_map (λ e. Each (λ s. is_text s ≡ true) e.attributes) _ _
-        (each_by ElementHasTexts _ (λ d t. each_of_map (λ s. is_text s ≡ true) _ _ (each_of_all _ (attribute_is_text d t.texts) _)) _ each_element);
-  }
-
-  pub elements_are_few : length (model_of features bundle).elements ≤ 2048
-  unfolding model_of
-  elements_are_few =
-      subst (λ n. n ≤ 2048) (sym (length-map (list_at (codes "elements") (model_in bundle)) _))
-      (few_where_within 2048 (list_at (codes "elements") (model_in bundle)) (each_by ElementIsRead _ (λ e r. r.within) _ each_read))
-
 -- ---- the bundle
 
 module _ (d : Document) (none : bundle_faults d ≡ []) where
@@ -229,6 +146,6 @@ module _ (d : Document) (none : bundle_faults d ≡ []) where
     names = ap bad_names (names_of_line d) ∙ names_are_proper d readers_parts.0.0;
     few_features = subst (λ ns. length ns ≤ 256) (sym (names_of_line d)) (names_are_few d readers_parts.0.0);
     model = subst (λ ns. ModelHasTexts (model_of ns d)) (sym (names_of_line d)) (model_has_texts (feature_names_in d) d readers_parts.0.1);
-    few_elements = subst (λ ns. length (model_of ns d).elements ≤ 2048) (sym (names_of_line d)) (elements_are_few (feature_names_in d) d readers_parts.0.1);
+    few_elements = subst (λ ns. length (model_of ns d).elements ≤ 2048) (sym (names_of_line d)) (model_keeps_rules (feature_names_in d) d readers_parts.0.1).few_elements;
     templates = fit;
   }

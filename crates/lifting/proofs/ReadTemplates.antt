@@ -18,7 +18,8 @@ use Rattle.meaning.proofs.EmptyLists.{both_true}
 use Rattle.lifting.specs.OrderedTemplates.{StandsAt, AreOrdered}
 use Rattle.lifting.specs.ThereElements.{PartFits}
 use Rattle.lifting.specs.ScopedTemplates.{bound_by, AreScoped}
-use Rattle.lifting.specs.FittingTemplates.{IsTextPart, FewVariables, TemplatesFit}
+use Rattle.templates.specs.ReadOver.{AreRead}
+use Rattle.lifting.specs.FittingTemplates.{IsTextPart, FewVariables, TemplatesFit, HaveNoSolutions}
 use Rattle.lifting.proofs.EqualityTests.{none_is_some, some_is, same_number, equal_numbers}
 use Rattle.lifting.proofs.ReadTemplateRules.{NodeKeeps, TemplateKeeps, templates_keep}
 use Rattle.lifting.proofs.ReadTemplatePlaces.{get_within}
@@ -118,38 +119,55 @@ module _ (m : Model) (ds : List Document) (keeps : (i : ℕ) (d : Document) → 
     no_solution_word i t j n x =
         all_at (λ d. not (rules.is_solution (kind_in d))) (nodes_in m ds i x.template) (none i x.template x.at) j x.place.document x.place.of_node
 
-    read_fit : TemplatesFit read
-    read_fit = record {
-      ordered = ordered;
-      scoped = scoped;
-      few_each = λ i t j n s. let x = find_node i t j n s in
-          subst FewVariables (sym (ap (λ n. n.each) x.place.is)) (few_each_in (read_context m ds i x.template) j x.place.document x.rules.queries);
-      few_guard = λ i t j n s. let x = find_node i t j n s in
-          subst FewVariables (sym (ap (λ n. n.guard) x.place.is)) (few_guard_in (read_context m ds i x.template) j x.place.document x.rules.queries);
-      branching = λ i t j n s kind e. let x = find_node i t j n s in
-          let scope = scope_of (read_context m ds i x.template) j in
-          ap (λ n. is_strategy kind || is_none n.each) x.place.is
-          ∙ branches_at_strategies (read_context m ds i x.template) j x.place.document x.rules.members m (names_of m ds) scope scope kind (sym (ap (λ n. n.kind) x.place.is) ∙ e);
-      arguing = λ i t j n s kind e. let x = find_node i t j n s in
-          ap (λ n. argues kind || not n.undeveloped) x.place.is
-          ∙ marks_at_arguments (read_context m ds i x.template) j x.place.document x.rules.members (names_of m ds) (scope_of (read_context m ds i x.template) j) kind (sym (ap (λ n. n.kind) x.place.is) ∙ e);
+    read_without_solutions : HaveNoSolutions read
+    read_without_solutions = record {
       no_solution = λ i t j n s kind e. let x = find_node i t j n s in
           no_solution_in (read_context m ds i x.template) j x.place.document x.rules.members (no_solution_word i t j n x) (names_of m ds) (scope_of (read_context m ds i x.template) j) kind
           (sym (ap (λ n. n.kind) x.place.is) ∙ e);
-      texts = λ i t j n s. let x = find_node i t j n s in
-          subst (Each IsTextPart) (sym (ap (λ n. n.words) x.place.is))
-          (words_are_texts (read_context m ds i x.template) j x.place.document m (scope_of (read_context m ds i x.template) j) x.rules.texts_fit);
       unchecked = λ i t j n s. let x = find_node i t j n s in
           ap (λ n. n.check) x.place.is
           ∙ unchecked_in (read_context m ds i x.template) j x.place.document x.rules.members (no_solution_word i t j n x) m (scope_of (read_context m ds i x.template) j);
-      few_nodes = λ i t e. omega (arith, one_of_all read i t e, read_nodes_are_few m (names_of m ds) ds keeps);
-      few = omega (arith, read_nodes_are_few m (names_of m ds) ds keeps);
     }
+
+  read_fit : HaveNoSolutions read → TemplatesFit read
+  read_fit none = record {
+    ordered = ordered;
+    scoped = scoped;
+    few_each = λ i t j n s. let x = find_node i t j n s in
+        subst FewVariables (sym (ap (λ n. n.each) x.place.is)) (few_each_in (read_context m ds i x.template) j x.place.document x.rules.queries);
+    few_guard = λ i t j n s. let x = find_node i t j n s in
+        subst FewVariables (sym (ap (λ n. n.guard) x.place.is)) (few_guard_in (read_context m ds i x.template) j x.place.document x.rules.queries);
+    branching = λ i t j n s kind e. let x = find_node i t j n s in
+        let scope = scope_of (read_context m ds i x.template) j in
+        ap (λ n. is_strategy kind || is_none n.each) x.place.is
+        ∙ branches_at_strategies (read_context m ds i x.template) j x.place.document x.rules.members m (names_of m ds) scope scope kind (sym (ap (λ n. n.kind) x.place.is) ∙ e);
+    arguing = λ i t j n s kind e. let x = find_node i t j n s in
+        ap (λ n. argues kind || not n.undeveloped) x.place.is
+        ∙ marks_at_arguments (read_context m ds i x.template) j x.place.document x.rules.members (names_of m ds) (scope_of (read_context m ds i x.template) j) kind (sym (ap (λ n. n.kind) x.place.is) ∙ e);
+    no_solution = none.no_solution;
+    texts = λ i t j n s. let x = find_node i t j n s in
+        subst (Each IsTextPart) (sym (ap (λ n. n.words) x.place.is))
+        (words_are_texts (read_context m ds i x.template) j x.place.document m (scope_of (read_context m ds i x.template) j) x.rules.texts_fit);
+    unchecked = none.unchecked;
+    few_nodes = λ i t e. omega (arith, one_of_all read i t e, read_nodes_are_few m (names_of m ds) ds keeps);
+    few = omega (arith, read_nodes_are_few m (names_of m ds) ds keeps);
+  }
 
 -- a document without a fault of its templates, and without solutions
 pub read_templates_fit : (m : Model) (d : Document) → template_faults m d ≡ [] → has_no_solutions d ≡ true → TemplatesFit (templates_of m d)
 unfolding templates_of has_no_solutions
-read_templates_fit m d e none = read_fit m (templates_in d) (templates_keep m d e) (λ i t f. all_at has_no_solution (templates_in d) none i t f)
+read_templates_fit m d e none =
+    read_fit m (templates_in d) (templates_keep m d e)
+    (read_without_solutions m (templates_in d) (templates_keep m d e) (λ i t f. all_at has_no_solution (templates_in d) none i t f))
+
+fit_over : (m : Model) (d : Document) → template_faults m d ≡ [] → HaveNoSolutions (templates_of m d) → TemplatesFit (templates_of m d)
+unfolding templates_of
+fit_over m d e none = read_fit m (templates_in d) (templates_keep m d e) none
+
+-- templates that were read, without solutions
+pub read_over_fit : (templates : List Template) → AreRead templates → HaveNoSolutions templates → TemplatesFit templates
+read_over_fit templates read none =
+    subst TemplatesFit (sym read.over.of_bundle) (fit_over read.model read.over.bundle read.over.rules (subst HaveNoSolutions read.over.of_bundle none))
 
 -- the same, with the truth of the test
 pub read_templates_fit_truly : (m : Model) (d : Document) → template_faults m d ≡ [] → IsTrue (has_no_solutions d) → TemplatesFit (templates_of m d)

@@ -2,16 +2,10 @@
 use Rattle.std.specs.Prelude.{◌≡◌, ℕ, ◌≤◌, [], length, Bool, true, if◌then◌else◌}
 use Rattle.meaning.specs.Texts.{is_text}
 use Rattle.meaning.specs.Features.{feature_names}
-use Rattle.meaning.specs.Models.{Model}
 use Rattle.meaning.specs.CaseReading.{bad_names}
 use Rattle.meaning.specs.Derivation.{Bundle}
-use Rattle.meaning.proofs.CutTrees.{Each}
+use Rattle.annotated_model.specs.ModelTexts.{ModelHasTexts}
 use Rattle.lifting.specs.FittingTemplates.{TemplatesFit}
-
--- the names of the elements and the values of their attributes are texts
-pub record ModelHasTexts (m : Model) : Type 0 where
-  pub names : Each (λ e. is_text e.name ≡ true) m.elements
-  pub attributes : Each (λ e. Each (λ s. is_text s ≡ true) e.attributes) m.elements
 
 -- its texts are texts, its names are names, its features and elements are few, and its templates can be instantiated
 pub record BundleFits (b : Bundle) : Type 0 where

@@ -38,3 +38,9 @@ pub record TemplatesFit (templates : List Template) : Type 0 where
   pub unchecked : (i : ℕ) (t : Template) (j : ℕ) (n : TemplateNode) → StandsAt templates i t j n → n.check ≡ None
   pub few_nodes : (i : ℕ) (t : Template) → slice_get templates i ≡ Some t → length t.nodes ≤ 2 ^ 16
   pub few : node_count templates ≤ 2 ^ 16
+
+-- no node is a solution or has a check
+pub record HaveNoSolutions (templates : List Template) : Type 0 where
+  pub no_solution : (i : ℕ) (t : Template) (j : ℕ) (n : TemplateNode) → StandsAt templates i t j n → (kind : NodeKind) → n.kind ≡ Plain kind
+      → is_solution kind ≡ false
+  pub unchecked : (i : ℕ) (t : Template) (j : ℕ) (n : TemplateNode) → StandsAt templates i t j n → n.check ≡ None

@@ -1,24 +1,27 @@
 //! The lifted case of templates.
 
-ghost use Rattle.std.specs.Prelude.{◌≡◌, ◌≤◌, ◌^◌, [], None, length, codes, IfOk, IfErr, OnOk};
+ghost use Rattle.std.specs.Prelude.{◌≡◌, ◌≤◌, ◌^◌, [], None, length, codes, true, IfOk, IfErr, OnOk};
+ghost use Rattle.meaning.specs.Texts.{is_text};
+ghost use Rattle.meaning.specs.CaseReading.{bad_names};
+ghost use Rattle.lifted_case.specs.CaseContents.{BreaksNoRule, TextsAreJoined};
 ghost use Rattle.meaning.specs.Templates as meaning;
 ghost use Rattle.worlds.specs.Algebra.{Kept};
 ghost use Rattle.annotated_model.specs.ModelFacts.{NamesFeatures};
 ghost use Rattle.lifting.specs.Stops.{Halts};
 ghost use Rattle.lifting.specs.Sites.{templates_of, AddsFirst};
 ghost use Rattle.lifting.specs.LiftedInstances.{IsLiftedInstance};
-ghost use Rattle.lifting.specs.FittingTemplates.{TemplatesFit};
+ghost use Rattle.lifting.specs.FittingTemplates.{TemplatesFit, HaveNoSolutions};
 ghost use Rattle.lifting.specs.Overflows.{TooManyEntries};
 
 use crate::growing::Growing;
 use crate::lift::{element_count, lift_first};
 use crate::stop::LiftStop;
 use annotated_model::Model;
-use cond_text::Names;
+use cond_text::{NameStop, Names};
 use doc_tree::{NoMemory, Row, Word};
 use lifted_case::Lifted;
 use std::alloc::Global;
-use templates::Template;
+use templates::{Template, Templates};
 use worlds::Worlds;
 
 /// The most entries of a case.
@@ -44,7 +47,8 @@ fn copied(alloc: Global, names: &Names) -> Result<Names, NoMemory>
     'names: for number in 0..names.count() {
         match copy.add(names.name(number)) {
             Ok(_) => (),
-            Err(_) => return Err(NoMemory),
+            Err(NameStop::Repeated(_)) => unreachable!(),
+            Err(NameStop::NoMemory) => return Err(NoMemory),
         }
     }
     Ok(copy)
@@ -89,21 +93,27 @@ fn lift_last<W: Worlds>(
     }
 }
 
-/// The case that the templates give on the model of each world.
+/// The case that the templates give on the model of each world. No template may have a solution.
+///
+/// Its contents break no rule of case files where the title is a text and the features are at most 256 names, and its texts are joined.
 pub fn instantiate<W: Worlds>(
     alloc: Global,
     title: &str,
     features: &Names,
     model: &Model,
-    templates: &[Template],
+    templates: &Templates,
     w: &mut W,
 ) -> Result<Lifted<W::C>, LiftStop>
     requires names { NamesFeatures (W.algebra w.old).count model.now }
-    requires fit { TemplatesFit (templates_of templates.now) }
+    requires unsolved { HaveNoSolutions templates.now }
     ensures kept { Kept (W.algebra w.old) (W.algebra w.new) }
-    ensures lifted { IfOk result (IsLiftedInstance (W.algebra w.new) title.now features.now model.now (templates_of templates.now)) }
-    ensures stops { IfErr result (Halts (W.algebra w.old) (W.algebra w.new) (TooManyEntries (W.algebra w.new) model.now (templates_of templates.now))) }
+    ensures lifted { IfOk result (IsLiftedInstance (W.algebra w.new) title.now features.now model.now templates.now) }
+    ensures contents { IfOk result (λ case. is_text title.now ≡ true → bad_names features.now ≡ [] → length features.now ≤ 256 → BreaksNoRule case) }
+    ensures texts { IfOk result TextsAreJoined }
+    ensures stops { IfErr result (Halts (W.algebra w.old) (W.algebra w.new) (TooManyEntries (W.algebra w.new) model.now templates.now)) }
 {
+    // The names and the attributes of the elements are texts, and these are few.
+    let _types = model.types();
     let valid = w.always();
     let title = Word::of(alloc, title)?;
     let features = copied(alloc, features)?;
@@ -112,7 +122,7 @@ pub fn instantiate<W: Worlds>(
         relations: Vec::new(alloc),
         left: MOST_ENTRIES,
     };
-    lift_last(alloc, model, templates, valid, &mut out, w)?;
+    lift_last(alloc, model, templates.list(), valid, &mut out, w)?;
     Ok(Lifted {
         title,
         features,
