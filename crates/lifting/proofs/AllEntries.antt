@@ -10,9 +10,9 @@ use Rattle.meaning.proofs.CutTrees.{Each}
 use Rattle.meaning.proofs.EachMembers.{each_by}
 use Rattle.lifting.specs.Lifting.{Seen}
 use Rattle.lifting.specs.CaseCounts.{entries_of_finding, entries_of_node, entries_in}
-use Rattle.lifting.proofs.Lists.{each_append}
-use Rattle.lifting.proofs.Pairs.{Pairwise, pairs_append}
-use Rattle.lifting.proofs.Members.{Member, member_front, member_behind, member_mapped, mapped_member, flat_member, member_each, each_from_members, member_of_contains, contains_member, one_place}
+use Rattle.meaning.proofs.Lists.{each_append}
+use Rattle.meaning.proofs.Pairs.{Pairwise, pairs_append}
+use Rattle.meaning.proofs.Members.{Member, member_front, member_behind, member_mapped, mapped_member, flat_member, member_each, each_from_members, member_of_contains, contains_member, one_place}
 use Rattle.lifting.proofs.TidyProducts.{nodes_differ, product_finds, origin}
 use Rattle.lifting.proofs.EntryParts.{entry_key, Occurs, EntriesOfKey}
 use Rattle.lifting.proofs.CaseEntries.{of_this_node, none_found, some_found}

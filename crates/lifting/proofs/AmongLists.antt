@@ -4,7 +4,7 @@ use Rattle.std.specs.Prelude.{cond, filter}
 use Rattle.meaning.specs.Texts.{flat}
 use Rattle.meaning.specs.Tidy.{Among, none, taken, passed}
 use Rattle.meaning.proofs.CutTrees.{Each}
-use Rattle.lifting.proofs.Pairs.{Pairwise}
+use Rattle.meaning.proofs.Pairs.{Pairwise}
 
 module _ {A : Type 0} where
   pub among_nothing : (ys : List A) → Among [] ys

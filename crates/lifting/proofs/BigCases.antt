@@ -34,10 +34,10 @@ use Rattle.lifted_case.proofs.FindingReads.{IsSmallRow}
 use Rattle.lifted_case.proofs.RowsFit.{rows_fit}
 use Rattle.lifted_case.proofs.TablesAlike.{IsAlike, alike_back, alike_once, agree_over_lists}
 use Rattle.lifted_case.proofs.TableValues.{holds-value}
-use Rattle.lifting.proofs.Lists.{each_append, each_two}
-use Rattle.lifting.proofs.Members.{Member, no_more}
-use Rattle.lifting.proofs.Pairs.{Pairwise, each_of_map}
-use Rattle.lifting.proofs.EqualityTests.{none_is_some, some_is}
+use Rattle.meaning.proofs.Lists.{each_append, each_two}
+use Rattle.meaning.proofs.Members.{Member, no_more}
+use Rattle.meaning.proofs.Pairs.{Pairwise, each_of_map}
+use Rattle.meaning.proofs.EqualityTests.{none_is_some, some_is}
 
 -- ---- two reduced lists of nodes: what has a number with its function in the other has its children's there, too
 

@@ -11,10 +11,10 @@ use Rattle.meaning.specs.Entries as listed
 use Rattle.meaning.proofs.CutTrees.{Each}
 use Rattle.meaning.proofs.EachMembers.{each_by}
 use Rattle.lifting.specs.Lifting.{Seen}
-use Rattle.lifting.proofs.Lists.{each_append, each_of_all}
-use Rattle.lifting.proofs.Pairs.{Pairwise, each_of_map, pairs_append, pairs_by, pairs_mapped, pairs_from_map}
-use Rattle.lifting.proofs.AscendingTuples.{pairs_from_ascend, before_differ}
-use Rattle.lifting.proofs.Members.{Member, member_front, member_behind, member_mapped, each_from_members, member_at}
+use Rattle.meaning.proofs.Lists.{each_append, each_of_all}
+use Rattle.meaning.proofs.Pairs.{Pairwise, each_of_map, pairs_append, pairs_by, pairs_mapped, pairs_from_map}
+use Rattle.meaning.proofs.AscendingTuples.{pairs_from_ascend, before_differ}
+use Rattle.meaning.proofs.Members.{Member, member_front, member_behind, member_mapped, each_from_members, member_at}
 use Rattle.lifting.proofs.TidyProducts.{nothing_told}
 use Rattle.lifting.proofs.EntryParts.{entry_key, Occurs, EntriesOfKey, occurs_at, key_is, tells, told, each_from_places, is_one_of, any_of, is_last, last_is, is_first, first_is}
 

@@ -18,7 +18,7 @@ use Rattle.lifted_case.specs.declared.lifted.LPart.{LPart}
 use Rattle.lifted_case.specs.declared.lifted.LPart.TheVariants as part
 use Rattle.lifted_case.specs.CaseView.{case_part_of}
 use Rattle.lifted_case.specs.CaseContents.{begins_with_words, are_joined}
-use Rattle.lifting.specs.KeySteps.{IsSmall}
+use Rattle.meaning.proofs.KeySteps.{IsSmall}
 
 -- ---- keys
 

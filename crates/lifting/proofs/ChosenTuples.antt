@@ -7,11 +7,11 @@ use Rattle.meaning.specs.Queries.{Query, answers, tuples}
 use Rattle.meaning.specs.Tidy.{Among, none, taken, passed, whole_model, is_before, same_tuple}
 use Rattle.meaning.proofs.CutTrees.{Each}
 use Rattle.meaning.proofs.EachMembers.{each_by}
-use Rattle.lifting.proofs.Pairs.{Pairwise, pairs_by}
+use Rattle.meaning.proofs.Pairs.{Pairwise, pairs_by}
 use Rattle.lifting.proofs.AmongLists.{among_each}
-use Rattle.lifting.proofs.AscendingTuples.{tuples_ascend, whole_ascends, before_differ}
+use Rattle.meaning.proofs.AscendingTuples.{tuples_ascend, whole_ascends, before_differ}
 use Rattle.lifting.proofs.KeysAmong.{answers_among}
-use Rattle.lifting.proofs.EqualityTests.{same_text, other_text}
+use Rattle.meaning.proofs.EqualityTests.{same_text, other_text}
 
 -- ---- some of many that differ
 

@@ -8,7 +8,7 @@ use Rattle.meaning.specs.Queries.{element_of_variable}
 use Rattle.meaning.specs.Tidy.{whole_model}
 use Rattle.annotated_model.specs.declared.data.Element.{Element}
 use Rattle.annotated_model.specs.View.{element_view}
-use Rattle.lifting.proofs.EqualityTests.{other_number}
+use Rattle.meaning.proofs.EqualityTests.{other_number}
 use Rattle.lifting.proofs.ThereElements.{in_whole}
 
 -- ---- variables

@@ -5,10 +5,10 @@ use Rattle.meaning.specs.Derivation.{Bundle}
 use Rattle.meaning.specs.Entries.{Entry, of_node, of_branch, of_target, of_witness, entries_at, IsEntriesOf, most_entries}
 use Rattle.meaning.specs.Answers.{ManyEntries}
 use Rattle.meaning.proofs.CutTrees.{Each}
-use Rattle.lifting.proofs.Pairs.{Pairwise}
+use Rattle.meaning.proofs.Pairs.{Pairwise}
 use Rattle.lifting.proofs.EntryParts.{Occurs}
 use Rattle.lifting.proofs.ListedOnce.{all_that_occurs, lists_each, no_more_occur}
-use Rattle.lifting.proofs.EqualityTests.{same_number, equal_numbers, same_text, equal_texts}
+use Rattle.meaning.proofs.EqualityTests.{same_number, equal_numbers, same_text, equal_texts}
 use Rattle.meaning.proofs.EmptyLists.{both_true}
 
 -- ---- a test that tells entries apart

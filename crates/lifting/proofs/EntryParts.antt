@@ -10,10 +10,10 @@ use Rattle.meaning.specs.Tidy.{ValidWorld, instance_at, node_with_key, findings_
 use Rattle.meaning.specs.Entries.{Entry, of_node, of_branch, of_target, of_witness, only, entries_of_node, entries_at}
 use Rattle.meaning.proofs.CutTrees.{Each}
 use Rattle.lifting.specs.Lifting.{Seen}
-use Rattle.lifting.proofs.Pairs.{Pairwise}
-use Rattle.lifting.proofs.Members.{Member, member_of_flat, contains_member}
+use Rattle.meaning.proofs.Pairs.{Pairwise}
+use Rattle.meaning.proofs.Members.{Member, member_of_flat, contains_member}
 use Rattle.lifting.proofs.TidyProducts.{find_member}
-use Rattle.lifting.proofs.EqualityTests.{same_number, equal_numbers}
+use Rattle.meaning.proofs.EqualityTests.{same_number, equal_numbers}
 
 -- ---- what an entry is of
 

@@ -3,10 +3,10 @@ use Rattle.std.proofs.Common.{◌≡◌, ◌≢◌, ℕ, List, [], ◌∷◌, ma
 use Rattle.std.specs.Prelude.{cond, filter, find, bytes_eq}
 use Rattle.meaning.proofs.CutTrees.{Each}
 use Rattle.meaning.proofs.EachMembers.{each_by}
-use Rattle.lifting.proofs.Pairs.{Pairwise}
+use Rattle.meaning.proofs.Pairs.{Pairwise}
 use Rattle.lifting.specs.Lifting.{Seen, key_seen}
-use Rattle.lifting.proofs.EqualityTests.{same_text, other_text}
-use Rattle.lifting.proofs.Lists.{each_two}
+use Rattle.meaning.proofs.EqualityTests.{same_text, other_text}
+use Rattle.meaning.proofs.Lists.{each_two}
 
 module _ {A : Type 0} (there : A → Bool) (seen : A → Seen) where
   abbrev pub key_there : A → List ℕ

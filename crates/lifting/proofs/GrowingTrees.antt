@@ -4,7 +4,7 @@ use Rattle.std.proofs.lemmas.List.{map-append, length-append, append_assoc, appe
 use Rattle.meaning.specs.Cases.{NodeKind, Relation}
 use Rattle.meaning.specs.Templates.{moved, relation_to}
 use Rattle.meaning.proofs.CutTrees.{Tree, nodes_of, tree_over, link_down, links_below}
-use Rattle.lifting.proofs.Lists.{flat_append}
+use Rattle.meaning.proofs.Lists.{flat_append}
 
 module _ {A : Type 0} (kind : A → NodeKind) where
   pub links_append : (k : ℕ) (ts us : List (Tree A)) → links_below kind k (ts ++ us) ≡ links_below kind k ts ++ links_below kind (k + length (nodes_of ts)) us

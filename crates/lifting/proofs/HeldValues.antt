@@ -10,9 +10,9 @@ use Rattle.meaning.specs.Entries.{only}
 use Rattle.meaning.specs.Tidy.{ValidWorld, AreConditionsOf, same_tuple, is_tuple}
 use Rattle.meaning.proofs.CutTrees.{Each}
 use Rattle.lifting.specs.LiftedCases.{Noted, there_in}
-use Rattle.lifting.proofs.Pairs.{Pairwise}
+use Rattle.meaning.proofs.Pairs.{Pairwise}
 use Rattle.lifting.proofs.LiftedNotes.{same_conditions}
-use Rattle.lifting.proofs.EqualityTests.{same_number, equal_numbers, same_text, equal_texts, none_is_some, some_is}
+use Rattle.meaning.proofs.EqualityTests.{same_number, equal_numbers, same_text, equal_texts, none_is_some, some_is}
 
 -- the values whose condition holds
 abbrev pub those_held : {A : Type 0} → (ℕ → Bool) → List A → List ℕ → List A

@@ -26,8 +26,8 @@ use Rattle.lifting.specs.Noted.{Noted, there_at, seen_at, Stands, entries_of}
 use Rattle.lifting.specs.Overflows.{TooManyEntries}
 use Rattle.lifting.proofs.CutInstances.{cut_is_instance}
 use Rattle.lifting.proofs.InstanceNodes.{TellsNothing, without_verdict}
-use Rattle.lifting.proofs.Lists.{each_of_all}
-use Rattle.lifting.proofs.Members.{Member, no_more}
+use Rattle.meaning.proofs.Lists.{each_of_all}
+use Rattle.meaning.proofs.Members.{Member, no_more}
 use Rattle.lifting.proofs.WrittenNotes.{HaveAll, IsExactAt, written_nodes, written_lifts, written_targets}
 
 -- ---- what is counted

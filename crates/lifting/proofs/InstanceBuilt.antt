@@ -38,16 +38,16 @@ use Rattle.lifting.specs.LiftedCases.{IsLiftedCase}
 use Rattle.lifting.specs.LiftedInstances.{IsLiftedInstance}
 use Rattle.lifting.specs.Noted.{Noted, Stands, conditions_to, entries_of}
 use Rattle.lifting.proofs.BigCases.{written_case_reads}
-use Rattle.lifting.proofs.EqualityTests.{equal_numbers, same_number, none_is_some}
+use Rattle.meaning.proofs.EqualityTests.{equal_numbers, same_number, none_is_some}
 use Rattle.lifting.proofs.InstanceRules.{all_from_each, instance_keeps_rules, instance_is_joined}
 use Rattle.lifting.proofs.InstancesAreCases.{instance_is_case}
-use Rattle.lifting.proofs.KeysDiffer.{AreFew}
+use Rattle.meaning.proofs.KeysDiffer.{AreFew}
 use Rattle.lifting.proofs.LiftedBuild.{nothing_to_accept, nothing_to_replay, lifted_is_build}
 use Rattle.lifting.proofs.LiftedBuilt.{prints_case, case_is_long}
 use Rattle.lifting.proofs.LiftedTidy.{lifted_is_tidy}
-use Rattle.lifting.proofs.Lists.{each_append, each_two}
-use Rattle.lifting.proofs.Pairs.{each_of_map}
-use Rattle.lifting.proofs.Members.{Member, member_of_contains, mapped_member, member_each}
+use Rattle.meaning.proofs.Lists.{each_append, each_two}
+use Rattle.meaning.proofs.Pairs.{each_of_map}
+use Rattle.meaning.proofs.Members.{Member, member_of_contains, mapped_member, member_each}
 
 -- ---- conditions
 

@@ -9,8 +9,8 @@ use Rattle.meaning.specs.Cases.{NodeKind}
 use Rattle.meaning.specs.Templates.{Template, TemplateNode, TemplateKind, Plain, Uses, Check, Instance, Instances, nothing, node_of, findings_of, annotations, supporters, supported_by, first_node, key_below, key_in_branch, is_guarded_off, instance_by_kind, instance_over, instance_within, instance, last_template, node_count, check_refuted, last_of, first_answer}
 use Rattle.meaning.proofs.CutTrees.{Each}
 use Rattle.lifting.specs.Lifting.{Seen}
-use Rattle.lifting.proofs.Lists.{each_append, each_of_all}
-use Rattle.lifting.proofs.Pairs.{each_of_map, each_of_flat}
+use Rattle.meaning.proofs.Lists.{each_append, each_of_all}
+use Rattle.meaning.proofs.Pairs.{each_of_map, each_of_flat}
 
 module _ (labels : ℕ) (m : PlainModel) (templates : List Template) (P : Seen → Type 0)
     (holds_of : (key bound : List ℕ) (kind : NodeKind) (n : TemplateNode) → P (node_of labels m key bound kind n, findings_of labels m bound n)) where

@@ -30,12 +30,12 @@ use Rattle.templates.specs.ReadOver.{AreRead}
 use Rattle.lifting.specs.FittingTemplates.{TemplatesFit, HaveNoSolutions}
 use Rattle.lifting.proofs.ReadTemplates.{read_over_fit}
 use Rattle.annotated_model.specs.ModelTexts.{ModelHasTexts}
-use Rattle.lifting.specs.KeySteps.{IsSmall}
+use Rattle.meaning.proofs.KeySteps.{IsSmall}
 use Rattle.lifting.proofs.CaseTexts.{joined_are_texts, parts_are_joined}
 use Rattle.lifting.proofs.InstanceTexts.{IsOfTemplate, of_templates}
-use Rattle.lifting.proofs.KeysDiffer.{AreFew, small_elements}
-use Rattle.lifting.proofs.Lists.{each_two, each_for_all}
-use Rattle.lifting.proofs.Pairs.{each_of_map}
+use Rattle.meaning.proofs.KeysDiffer.{AreFew, small_elements}
+use Rattle.meaning.proofs.Lists.{each_two, each_for_all}
+use Rattle.meaning.proofs.Pairs.{each_of_map}
 use Rattle.lifting.proofs.ModelTexts.{parts_are_texts}
 
 -- ---- lists

@@ -10,14 +10,14 @@ use Rattle.meaning.specs.Templates.{Template, TemplateNode, TemplateKind, Plain,
 use Rattle.meaning.proofs.CutTrees.{Each}
 use Rattle.meaning.proofs.EachMembers.{each_by, each_filtered}
 use Rattle.lifting.specs.Lifting.{Seen}
-use Rattle.lifting.specs.KeySteps.{IsSmall}
+use Rattle.meaning.proofs.KeySteps.{IsSmall}
 use Rattle.lifting.specs.OrderedTemplates.{StandsAt}
 use Rattle.lifting.proofs.CaseTexts.{below_is_text, in_branch_is_text}
-use Rattle.lifting.proofs.EqualityTests.{none_is_some}
-use Rattle.lifting.proofs.KeysDiffer.{AreFew}
-use Rattle.lifting.proofs.Lists.{each_append, each_two}
-use Rattle.lifting.proofs.LowerNodes.{numbers_below}
-use Rattle.lifting.proofs.Pairs.{each_of_map, each_of_flat}
+use Rattle.meaning.proofs.EqualityTests.{none_is_some}
+use Rattle.meaning.proofs.KeysDiffer.{AreFew}
+use Rattle.meaning.proofs.Lists.{each_append, each_two}
+use Rattle.meaning.proofs.LowerNodes.{numbers_below}
+use Rattle.meaning.proofs.Pairs.{each_of_map, each_of_flat}
 use Rattle.lifting.proofs.TemplateDepth.{each_numbered}
 use Rattle.lifting.proofs.ThereElements.{each_of_answers}
 

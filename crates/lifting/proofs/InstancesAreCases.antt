@@ -28,12 +28,12 @@ use Rattle.lifting.specs.Noted.{Noted, note_key, there_at, Stands}
 use Rattle.lifting.specs.LiftedInstances.{IsLiftedInstance, tree_of}
 use Rattle.lifting.specs.RootedTrees.{IsRooted}
 use Rattle.lifting.proofs.MappedTrees.{rooted_mapped}
-use Rattle.lifting.proofs.Lists.{each_of_all, each_two}
-use Rattle.lifting.proofs.EqualityTests.{none_is_some, some_is}
-use Rattle.lifting.proofs.Pairs.{pairs_by, each_of_map}
-use Rattle.lifting.proofs.AscendingTuples.{pairs_from_ascend, before_differ}
+use Rattle.meaning.proofs.Lists.{each_of_all, each_two}
+use Rattle.meaning.proofs.EqualityTests.{none_is_some, some_is}
+use Rattle.meaning.proofs.Pairs.{pairs_by, each_of_map}
+use Rattle.meaning.proofs.AscendingTuples.{pairs_from_ascend, before_differ}
 use Rattle.lifting.proofs.AmongLists.{among_nothing}
-use Rattle.lifting.proofs.Members.{member_of_contains, member_each}
+use Rattle.meaning.proofs.Members.{member_of_contains, member_each}
 use Rattle.lifting.proofs.HeldValues.{those_held, branches_from_lists}
 use Rattle.lifting.proofs.WrittenNotes.{HaveAll, have_all, IsExactAt, same_there, held, written_nodes, written_lifts, written_targets}
 

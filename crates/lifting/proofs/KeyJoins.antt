@@ -3,7 +3,7 @@ use Rattle.std.proofs.Common.{◌≡◌, ℕ, zero, suc, ◌+◌, ◌<◌, ◌==
 use Rattle.std.specs.List.{join_with_byte}
 use Rattle.std.proofs.lemmas.List.{append_assoc}
 use Rattle.lifting.specs.TextParts.{point_before}
-use Rattle.lifting.proofs.EqualityTests.{same_number, other_number}
+use Rattle.meaning.proofs.EqualityTests.{same_number, other_number}
 
 joined_more : (xs : List (List ℕ)) (x y : List ℕ) → join_with_byte 46 ((x ∷ xs) ++ y ∷ []) ≡ join_with_byte 46 (x ∷ xs) ++ 46 ∷ y
 joined_more [] x y = refl

@@ -10,7 +10,7 @@ use Rattle.meaning.specs.Templates.{Template, TemplateNode, Plain, Uses, annotat
 use Rattle.meaning.specs.Tidy.{Among, none, taken, Keys, keys_below, first_keys, keys_by_kind}
 use Rattle.meaning.proofs.CutTrees.{Tree, Each, no_tree, nodes_of, tree_over}
 use Rattle.lifting.specs.RootedTrees.{IsKeyed, AreKeyed}
-use Rattle.lifting.proofs.Lists.{flat_append}
+use Rattle.meaning.proofs.Lists.{flat_append}
 use Rattle.lifting.proofs.AmongLists.{among_nothing, among_itself, among_append, among_both, among_flats}
 
 module _ {A : Type 0} (key : A → List ℕ) where

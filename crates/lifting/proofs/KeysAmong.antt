@@ -10,7 +10,7 @@ use Rattle.meaning.specs.Templates.{Template, TemplateNode, TemplateKind, Plain,
 use Rattle.meaning.specs.Tidy.{Among, none, taken, Keys, keys_below, first_keys, keys_by_kind, keys_within, possible_keys, whole_model, instance_at}
 use Rattle.meaning.specs.Derivation.{Bundle}
 use Rattle.lifting.specs.Lifting.{key_seen}
-use Rattle.lifting.proofs.Lists.{flat_append, flat_of_map, each_of_all}
+use Rattle.meaning.proofs.Lists.{flat_append, flat_of_map, each_of_all}
 use Rattle.lifting.proofs.AmongLists.{among_nothing, among_append, among_filtered, among_filters, among_both, among_mapped, among_flat, among_flats}
 
 -- ---- answers are some of the typed tuples of the whole model

@@ -1,15 +1,8 @@
-pub mod EqualityTests
-pub mod Lists
 pub mod LiftedTrees
 pub mod LiftedNodes
 pub mod TemplateDepth
 pub mod ThereElements
 pub mod SeenNodes
-pub mod KeyTexts
-pub mod Pairs
-pub mod AscendingTuples
-pub mod LowerNodes
-pub mod KeysDiffer
 pub mod AmongLists
 pub mod KeysAmong
 pub mod KeyedTrees
@@ -24,7 +17,6 @@ pub mod LiftedBuild
 pub mod ChosenTuples
 pub mod HeldValues
 pub mod TupleLengths
-pub mod Members
 pub mod ListedOnce
 pub mod InstanceNodes
 pub mod TidyProducts

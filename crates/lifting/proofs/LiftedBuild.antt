@@ -14,9 +14,9 @@ use Rattle.meaning.specs.Headline.{IsBuildOf, IsSystemVerdict, InvariantAccepted
 use Rattle.meaning.specs.Evidence.{system_number}
 use Rattle.meaning.proofs.ConfiguredWorlds.{configured_world, same_answers}
 use Rattle.lifting.specs.LiftedCases.{IsLiftedCase}
-use Rattle.lifting.proofs.KeysDiffer.{AreFew}
+use Rattle.meaning.proofs.KeysDiffer.{AreFew}
 use Rattle.lifting.proofs.LiftedTidy.{lifted_is_tidy}
-use Rattle.lifting.proofs.EqualityTests.{not_both}
+use Rattle.meaning.proofs.EqualityTests.{not_both}
 use Rattle.std.specs.Prelude.{Some, None, Contains, is_some}
 
 -- ---- the law, of any tidy case

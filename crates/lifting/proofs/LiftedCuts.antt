@@ -12,7 +12,7 @@ use Rattle.meaning.proofs.ValidWorlds.{valid_is_long}
 use Rattle.meaning.proofs.EachMembers.{each_from_members}
 use Rattle.lifting.specs.Lifting.{key_seen}
 use Rattle.lifting.specs.LiftedCases.{there_in, seen_in, IsLiftedCase}
-use Rattle.lifting.proofs.Pairs.{Pairwise}
+use Rattle.meaning.proofs.Pairs.{Pairwise}
 use Rattle.lifting.proofs.CutInstances.{cut_is_instance}
 use Rattle.lifting.proofs.FoundNodes.{IsFoundWhereThere, each_found_there}
 

@@ -9,7 +9,7 @@ use Rattle.meaning.specs.Cases.{NodeKind}
 use Rattle.meaning.specs.Templates.{Template, TemplateNode, Plain, Uses, Instance, Instances, nothing, node_of, findings_of, annotations, supporters, supported_by, first_node, key_below, key_in_branch, is_guarded_off, instance_by_kind, instance_over}
 use Rattle.meaning.proofs.CutTrees.{Tree, Each, tree_over}
 use Rattle.lifting.specs.Lifting.{Seen, Lifts, LiftsAll}
-use Rattle.lifting.proofs.Lists.{cond_append, cond_flat}
+use Rattle.meaning.proofs.Lists.{cond_append, cond_flat}
 use Rattle.lifting.proofs.LiftedTrees.{lifts_as, lifts_none, lifts_one, lifts_both, lifts_over, kind_there}
 
 module _ {A : Type 0} (there : A → Bool) (seen : A → Seen) where

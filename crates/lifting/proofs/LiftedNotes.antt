@@ -9,7 +9,7 @@ use Rattle.meaning.specs.CaseFiles.{CaseDocument, Finding, holds}
 use Rattle.meaning.specs.Derivation.{Bundle}
 use Rattle.meaning.specs.Tidy.{ValidWorld, AreConditionsOf, TellsCheck, TidyNode, TidyFinding, node_with_key, findings_at, has_branch, has_last, has_first, is_tuple, same_tuple, is_refuted_there}
 use Rattle.lifting.specs.LiftedCases.{Noted, there_in, seen_in, IsLiftedNode, IsLiftedFinding}
-use Rattle.lifting.proofs.EqualityTests.{none_is_some, some_is}
+use Rattle.meaning.proofs.EqualityTests.{none_is_some, some_is}
 
 -- conditions of the same values, that occur at the same valid worlds
 pub same_conditions : {A : Type 0} (k : CaseDocument) (b : Bundle) (occurs other : List Bool → A → Bool) (values : List A) (ids : List ℕ)

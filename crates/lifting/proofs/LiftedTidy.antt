@@ -14,12 +14,12 @@ use Rattle.meaning.proofs.MappedLists.{map_of_map}
 use Rattle.meaning.proofs.EachMembers.{each_member}
 use Rattle.meaning.proofs.CutKeys.{cut_keys}
 use Rattle.lifting.specs.LiftedCases.{there_in, seen_in, IsLiftedNode, IsLiftedCase}
-use Rattle.lifting.proofs.Pairs.{pairs_from_map, Pairwise, each_of_map, all_differ_from_pairs}
+use Rattle.meaning.proofs.Pairs.{pairs_from_map, Pairwise, each_of_map, all_differ_from_pairs}
 use Rattle.lifting.proofs.AmongLists.{among_pairs}
-use Rattle.lifting.proofs.KeysDiffer.{AreFew, possible_keys_under}
+use Rattle.meaning.proofs.KeysDiffer.{AreFew, possible_keys_under}
 use Rattle.lifting.proofs.LiftedNotes.{tidy_node}
 use Rattle.lifting.proofs.LiftedCuts.{cut_is_case, found_in_product}
-use Rattle.lifting.proofs.Lists.{each_two, each_for_all}
+use Rattle.meaning.proofs.Lists.{each_two, each_for_all}
 
 module _ (k : CaseDocument) (b : Bundle) (few_elements : length b.model.elements ≤ 2 ^ 64) (few_nodes : AreFew b.templates) (h : IsLiftedCase k b) where
   keys_differ : Pairwise (λ s t. s ≢ t) (map (λ n. n.key) k.nodes)

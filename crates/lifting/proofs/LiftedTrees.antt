@@ -9,7 +9,7 @@ use Rattle.meaning.specs.Templates.{Instance, over, nothing, relation_down, rela
 use Rattle.meaning.proofs.CutTrees.{Tree, Each, IsWhole, HangsTogether, HasNoStrays, cut_tree, tree_map, no_tree, with_nodes, has_nodes, nodes_of, tree_over, link_down, links_below, cut_over, whole_over, cut_away, map_over, over_same, cut_has_no_strays}
 use Rattle.meaning.proofs.MappedLists.{map_of_map}
 use Rattle.lifting.specs.Lifting.{Seen, kind_seen, instance_tree, left, Lifts, LiftsAll}
-use Rattle.lifting.proofs.Lists.{each_append, map_nothing, no_element}
+use Rattle.meaning.proofs.Lists.{each_append, map_nothing, no_element}
 
 -- ---- instances as trees
 

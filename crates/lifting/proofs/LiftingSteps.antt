@@ -14,12 +14,12 @@ use Rattle.meaning.specs.Tidy as tidy
 use Rattle.meaning.proofs.CutTrees.{Tree, Each, no_tree, nodes_of, tree_over, links_below}
 use Rattle.meaning.proofs.EachMembers.{each_by}
 use Rattle.lifting.specs.declared.growing.Growing.{Growing}
-use Rattle.lifting.specs.KeySteps.{IsSmall}
+use Rattle.meaning.proofs.KeySteps.{IsSmall}
 use Rattle.lifting.specs.Lifting.{Lifts}
 use Rattle.lifting.specs.RootedTrees.{IsRooted, HangsUnder, BeginsAt, IsKeyed, AreKeyed}
 use Rattle.lifting.specs.Noted.{Noted, note_key, note_kind, there_at, seen_at, Stands, linked, links_at, conditions_to, Grows, entries_of, relation_of}
 use Rattle.lifting.specs.Sites.{AddsOne, AddsNode, AddsFirst, AddsBelow, LiesBelow, note_of, instances_below, keys_below}
-use Rattle.lifting.proofs.Lists.{flat_append}
+use Rattle.meaning.proofs.Lists.{flat_append}
 use Rattle.lifting.proofs.LiftedTrees.{lifts_nothing, lifts_never, lifts_under, lifts_one, lifts_over}
 use Rattle.lifting.proofs.LiftedNodes.{lifts_guarded}
 use Rattle.lifting.proofs.RootedTrees.{rooted_over, rooted_never}

@@ -11,9 +11,9 @@ use Rattle.meaning.specs.Entries.{ListsEach}
 use Rattle.meaning.proofs.CutTrees.{Each}
 use Rattle.meaning.proofs.ValidWorlds.{valid_is_long}
 use Rattle.meaning.proofs.EachMembers.{each_by}
-use Rattle.lifting.proofs.Pairs.{Pairwise}
-use Rattle.lifting.proofs.Members.{Member, member_front, member_behind, member_mapped, member_of_flat, flat_member, member_kept, member_each, member_of_contains, contains_member, one_place, no_more}
-use Rattle.lifting.proofs.Lists.{each_passes}
+use Rattle.meaning.proofs.Pairs.{Pairwise}
+use Rattle.meaning.proofs.Members.{Member, member_front, member_behind, member_mapped, member_of_flat, flat_member, member_kept, member_each, member_of_contains, contains_member, one_place, no_more}
+use Rattle.meaning.proofs.Lists.{each_passes}
 
 -- ---- all worlds
 

@@ -15,10 +15,10 @@ use Rattle.meaning.specs.Tidy.{Among, whole_model, keys_within}
 use Rattle.meaning.specs.Tidy as tidy
 use Rattle.path_queries.specs.Answering.{tuples_of, tuples_at}
 use Rattle.lifting.specs.declared.growing.Growing.{Growing}
-use Rattle.lifting.specs.KeySteps.{IsSmall}
+use Rattle.meaning.proofs.KeySteps.{IsSmall}
 use Rattle.lifting.specs.Sites.{AddsOne, AddsNode, AddsBelow, AreRows, LiesBelow, below_among, stands_below, branch_front, instances_below, keys_below, instances_of_tuples, keys_of_tuples, tuples_of_each}
-use Rattle.lifting.proofs.Lists.{flat_append, cond_append, cond_flat}
-use Rattle.lifting.proofs.EqualityTests.{none_is_some, some_is}
+use Rattle.meaning.proofs.Lists.{flat_append, cond_append, cond_flat}
+use Rattle.meaning.proofs.EqualityTests.{none_is_some, some_is}
 use Rattle.lifting.proofs.AmongLists.{among_itself, among_append, among_flats}
 use Rattle.lifting.proofs.NotedTrees.{same_tuples, stands_later}
 use Rattle.lifting.proofs.LiftingSteps.{adds_later, adds_as, adds_then, one_below, node_over}

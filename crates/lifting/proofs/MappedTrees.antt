@@ -11,7 +11,7 @@ use Rattle.meaning.proofs.EachMembers.{each_by}
 use Rattle.meaning.proofs.MappedLists.{filter_of_map, map_of_map}
 use Rattle.lifting.specs.Lifting.{Seen, left, Lifts}
 use Rattle.lifting.specs.RootedTrees.{IsRooted, IsKeyed, key_at}
-use Rattle.lifting.proofs.Lists.{map_same}
+use Rattle.meaning.proofs.Lists.{map_same}
 
 pub cut_mapped : {A B : Type 0} (there : B → Bool) (f : A → B) (t : Tree A) → cut_tree there (tree_map f t) ≡ tree_map f (cut_tree (λ n. there (f n)) t)
 cut_mapped {B = B} there f t =

@@ -13,7 +13,7 @@ use Rattle.meaning.proofs.CutTrees.{Each}
 use Rattle.meaning.proofs.EachMembers.{each_filtered}
 use Rattle.lifting.specs.FittingTemplates.{IsTextPart}
 use Rattle.annotated_model.specs.ModelTexts.{ModelHasTexts}
-use Rattle.lifting.proofs.EqualityTests.{none_is_some, some_is}
+use Rattle.meaning.proofs.EqualityTests.{none_is_some, some_is}
 
 module _ (P : Element → Type 0) where
   found_has : (xs : List (ℕ × Element)) → Each (λ e. P e.1) xs → (i : ℕ) (x : Element) → option_map (λ p. p.1) (find (λ p. p.0 == i) xs) ≡ Some x → P x

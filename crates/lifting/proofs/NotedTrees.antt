@@ -16,7 +16,7 @@ use Rattle.lifted_case.specs.declared.lifted.LRel.{LRel}
 use Rattle.lifting.specs.Lifting.{LiftsAll}
 use Rattle.lifting.specs.RootedTrees.{IsRooted, HangsUnder, AreKeyed}
 use Rattle.lifting.specs.Noted.{Noted, note_key, note_kind, there_at, seen_at, Stands, LiftsBelow, relation_of, linked, links_at, Grows, entries_of}
-use Rattle.lifting.proofs.Lists.{each_append, flat_append}
+use Rattle.meaning.proofs.Lists.{each_append, flat_append}
 use Rattle.lifting.proofs.LiftedTrees.{lifts_none, lifts_both}
 use Rattle.lifting.proofs.GrowingTrees.{moved_twice}
 use Rattle.lifting.proofs.KeyedTrees.{keyed_none, keyed_both}

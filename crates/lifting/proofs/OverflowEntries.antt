@@ -17,11 +17,11 @@ use Rattle.meaning.proofs.EachMembers.{each_by}
 use Rattle.lifting.specs.Lifting.{Seen}
 use Rattle.lifting.specs.FittingTemplates.{TemplatesFit}
 use Rattle.lifting.specs.Overflows.{Group, count_of_groups, KeyOccurs, TupleOccurs, Overflows, TooManyEntries}
-use Rattle.lifting.proofs.Pairs.{Pairwise, each_of_map, each_of_flat, pairs_by, pairs_mapped, pairs_from_map, pairs_flat}
-use Rattle.lifting.proofs.Members.{Member, member_front, member_mapped, member_of_flat, contains_member, each_from_members, member_each}
+use Rattle.meaning.proofs.Pairs.{Pairwise, each_of_map, each_of_flat, pairs_by, pairs_mapped, pairs_from_map, pairs_flat}
+use Rattle.meaning.proofs.Members.{Member, member_front, member_mapped, member_of_flat, contains_member, each_from_members, member_each}
 use Rattle.lifting.proofs.AmongLists.{among_pairs}
-use Rattle.lifting.proofs.KeysDiffer.{AreFew, keys_are_under, small_elements, last_is_few}
-use Rattle.lifting.proofs.AscendingTuples.{whole_ascends}
+use Rattle.meaning.proofs.KeysDiffer.{AreFew, keys_are_under, small_elements, last_is_few}
+use Rattle.meaning.proofs.AscendingTuples.{whole_ascends}
 use Rattle.lifting.proofs.EntryParts.{entry_key, Occurs}
 use Rattle.lifting.proofs.EntriesExist.{too_many}
 use Rattle.lifting.proofs.OverflowSteps.{StandsIn}

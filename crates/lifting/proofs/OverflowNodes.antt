@@ -16,9 +16,9 @@ use Rattle.lifting.specs.Lifting.{Seen, instance_tree, left, LiftsAll}
 use Rattle.lifting.specs.Noted.{Noted, note_key, there_at, seen_at, Stands, LiftsNode, LiftsBelow, entries_of}
 use Rattle.lifting.specs.Sites.{AddsNode, AddsBelow}
 use Rattle.lifting.specs.Overflows.{Group, count_of_groups, KeyOccurs, TupleOccurs}
-use Rattle.lifting.proofs.Pairs.{Pairwise, each_of_map, pairs_by}
-use Rattle.lifting.proofs.Members.{Member, member_each, each_from_members, member_kept, member_mapped, mapped_member, flat_member}
-use Rattle.lifting.proofs.AscendingTuples.{before_differ, pairs_from_ascend}
+use Rattle.meaning.proofs.Pairs.{Pairwise, each_of_map, pairs_by}
+use Rattle.meaning.proofs.Members.{Member, member_each, each_from_members, member_kept, member_mapped, mapped_member, flat_member}
+use Rattle.meaning.proofs.AscendingTuples.{before_differ, pairs_from_ascend}
 use Rattle.lifting.proofs.AmongLists.{among_filtered}
 use Rattle.lifting.proofs.LiftedTrees.{lifts_one}
 use Rattle.lifting.proofs.OverflowSteps.{StandsIn, among_member, HasEntries, Fills}

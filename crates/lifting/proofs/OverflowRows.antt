@@ -10,7 +10,7 @@ use Rattle.meaning.specs.Tidy.{Among, none, taken, whole_model, keys_within}
 use Rattle.path_queries.specs.Answering.{tuples_of, tuples_at}
 use Rattle.lifting.specs.Overflows.{Overflows}
 use Rattle.lifting.specs.Sites.{below_among, stands_below, branch_front, instances_below, keys_below, instances_of_tuples, keys_of_tuples}
-use Rattle.lifting.proofs.Lists.{flat_append, cond_append}
+use Rattle.meaning.proofs.Lists.{flat_append, cond_append}
 use Rattle.lifting.proofs.AmongLists.{among_nothing, among_itself, among_filters, among_mapped, among_flats}
 use Rattle.lifting.proofs.LoopSteps.{taken_more, below_more, tuples_more}
 use Rattle.lifting.proofs.OverflowSteps.{Fills, fills_later, fills_as, fills_then, overflows_then, overflows_as, overflows_of_some}

@@ -8,9 +8,9 @@ use Rattle.meaning.proofs.CutTrees.{Each}
 use Rattle.meaning.proofs.EachMembers.{each_by}
 use Rattle.lifting.specs.Lifting.{Seen}
 use Rattle.lifting.specs.Overflows.{Group, count_of_groups, KeyOccurs, TupleOccurs, Overflows}
-use Rattle.lifting.proofs.Pairs.{Pairwise}
-use Rattle.lifting.proofs.Members.{Member, member_front, member_behind}
-use Rattle.lifting.proofs.Lists.{each_append}
+use Rattle.meaning.proofs.Pairs.{Pairwise}
+use Rattle.meaning.proofs.Members.{Member, member_front, member_behind}
+use Rattle.meaning.proofs.Lists.{each_append}
 use Rattle.lifting.proofs.AmongLists.{among_nothing, among_itself, among_append, among_both}
 
 -- a node of one of these instances

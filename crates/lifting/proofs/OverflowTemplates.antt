@@ -19,8 +19,8 @@ use Rattle.lifting.specs.Lifting.{Seen}
 use Rattle.lifting.specs.Noted.{Noted, seen_at, entries_of}
 use Rattle.lifting.specs.Sites.{AddsOne, AreRows, note_of, tuples_of_each, branch_front, instances_below, keys_below, instances_of_tuples, keys_of_tuples}
 use Rattle.lifting.specs.Overflows.{KeyOccurs, TupleOccurs, Overflows, RowsOverflow}
-use Rattle.lifting.proofs.Lists.{cond_append, cond_flat}
-use Rattle.lifting.proofs.Members.{Member, member_front, member_either, member_of_flat}
+use Rattle.meaning.proofs.Lists.{cond_append, cond_flat}
+use Rattle.meaning.proofs.Members.{Member, member_front, member_either, member_of_flat}
 use Rattle.lifting.proofs.AmongLists.{among_nothing, among_itself, among_append, among_flats}
 use Rattle.lifting.proofs.NotedTrees.{same_tuples}
 use Rattle.lifting.proofs.LoopSteps.{one_later}

@@ -21,13 +21,13 @@ use Rattle.lifting.specs.declared.stop.LiftStop.{LiftStop}
 use Rattle.lifting.specs.declared.stop.LiftStop.TheVariants.{NodeLimit, BigCase, NoMemory}
 use Rattle.lifting.specs.Stops.{Halts, as_lift_stop}
 use Rattle.lifting.specs.Overflows.{RowsOverflow}
-use Rattle.lifting.proofs.Pairs.{Pairwise}
-use Rattle.lifting.proofs.Members.{Member, member_of_contains, contains_member, each_from_members}
+use Rattle.meaning.proofs.Pairs.{Pairwise}
+use Rattle.meaning.proofs.Members.{Member, member_of_contains, contains_member, each_from_members}
 use Rattle.lifting.specs.ThereElements.{IsThere, PartFits}
 use Rattle.lifting.specs.Noted.{Grows, linked, conditions_to, seen_at}
 use Rattle.lifting.specs.Sites.{AreRows, AddsOne, note_of}
 use Rattle.lifting.proofs.SeenNodes.{same_parts, node_is}
-use Rattle.lifting.proofs.AscendingTuples.{tuples_ascend, whole_ascends, ascend_from_pairs}
+use Rattle.meaning.proofs.AscendingTuples.{tuples_ascend, whole_ascends, ascend_from_pairs}
 use Rattle.lifting.proofs.AmongLists.{among_pairs}
 use Rattle.lifting.proofs.NotedTrees.{somewhere_later}
 use Rattle.path_queries.specs.Answering.{tuples_of}

@@ -20,7 +20,7 @@ use Rattle.lifting.specs.ThereElements.{PartFits}
 use Rattle.lifting.specs.Overflows.{Overflows, RowsOverflow}
 use Rattle.lifting.specs.Stops.{Halts}
 use Rattle.lifting.specs.Sites.{Site, SiteBelow, RowSites, AreRows, AddsOne, AddsNode, AddsBelow, LiesBelow, instances_below, keys_below, instances_of_tuples, keys_of_tuples}
-use Rattle.lifting.proofs.KeyTexts.{above_below}
+use Rattle.meaning.proofs.KeyTexts.{above_below}
 use Rattle.lifting.proofs.NotedTrees.{same_tuples, all_occur_later}
 use Rattle.lifting.proofs.SiteSteps.{site_under, annotations_site, supporters_site, row_sites}
 use Rattle.lifting.proofs.LoopSteps.{plain_alone, plain_in_branches}

@@ -14,12 +14,12 @@ use Rattle.meaning.specs.Answers.{Stage, IsBuilt}
 use Rattle.meaning.proofs.CutTrees.{Each}
 use Rattle.meaning.proofs.EachMembers.{each_by}
 use Rattle.lifting.specs.Lifting.{Seen, key_seen}
-use Rattle.lifting.proofs.AscendingTuples.{IsAscending, answers_ascend, product_ascends, before_differ}
+use Rattle.meaning.proofs.AscendingTuples.{IsAscending, answers_ascend, product_ascends, before_differ}
 use Rattle.lifting.proofs.EntryParts.{entry_key}
 use Rattle.lifting.proofs.InstanceNodes.{in_instance}
-use Rattle.lifting.proofs.Lists.{each_append, each_of_all}
-use Rattle.lifting.proofs.Members.{Member, no_more, each_from_members, member_of_contains, contains_member}
-use Rattle.lifting.proofs.Pairs.{Pairwise, each_of_map, pairs_append, pairs_by, pairs_where, pairs_mapped, pairs_flat}
+use Rattle.meaning.proofs.Lists.{each_append, each_of_all}
+use Rattle.meaning.proofs.Members.{Member, no_more, each_from_members, member_of_contains, contains_member}
+use Rattle.meaning.proofs.Pairs.{Pairwise, each_of_map, pairs_append, pairs_by, pairs_where, pairs_mapped, pairs_flat}
 use Rattle.lifting.proofs.TidyProducts.{product_differs}
 
 -- ---- the branches of a node

@@ -30,8 +30,8 @@ use Rattle.annotated_model.specs.ModelTexts.{ModelHasTexts}
 use Rattle.annotated_model.proofs.TextsRead.{model_has_texts}
 use Rattle.annotated_model.proofs.ModelLaws.{model_keeps_rules}
 use Rattle.lifting.specs.FittingBundles.{BundleFits}
-use Rattle.lifting.proofs.Lists.{each_of_all}
-use Rattle.lifting.proofs.Pairs.{each_of_map}
+use Rattle.meaning.proofs.Lists.{each_of_all}
+use Rattle.meaning.proofs.Pairs.{each_of_map}
 
 -- ---- lists without a fault
 

@@ -11,7 +11,7 @@ use Rattle.meaning.specs.LineRules.{is_within}
 use Rattle.meaning.specs.ModelRules.{counted_before}
 use Rattle.meaning.specs.Templates.{Template, node_count}
 use Rattle.meaning.specs.TemplateTexts.{template_of}
-use Rattle.lifting.proofs.EqualityTests.{not_both, none_is_some, some_is, same_number}
+use Rattle.meaning.proofs.EqualityTests.{not_both, none_is_some, some_is, same_number}
 use Rattle.lifting.proofs.ReadTemplateRules.{TemplateKeeps}
 use Rattle.lifting.proofs.ReadTemplatePlaces.{count_after, get_within}
 

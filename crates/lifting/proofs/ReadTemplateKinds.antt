@@ -13,7 +13,7 @@ use Rattle.meaning.specs.TemplateRules.{NodeContext, KindWord, a_goal, a_strateg
 use Rattle.meaning.specs.TemplateRules as rules
 use Rattle.meaning.proofs.EmptyLists.{both_true}
 use Rattle.meaning.proofs.AbsentMembers.{absent}
-use Rattle.lifting.proofs.EqualityTests.{not_both, equal_texts}
+use Rattle.meaning.proofs.EqualityTests.{not_both, equal_texts}
 use Rattle.lifting.proofs.ReadTemplateOrder.{either_true}
 
 -- ---- words of kinds

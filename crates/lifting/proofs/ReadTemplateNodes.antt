@@ -13,7 +13,7 @@ use Rattle.meaning.specs.Templates.{TemplateNode, Plain, Uses, annotates}
 use Rattle.meaning.specs.TemplateTexts.{Placed, node_kind, kind_of, query_at, scope_under, scope_for, placed, parameter_of, template_of}
 use Rattle.meaning.specs.TemplateRules.{NodeContext, context_of, scope_of, or_empty}
 use Rattle.meaning.proofs.MappedLists.{map_of_map}
-use Rattle.lifting.proofs.EqualityTests.{none_is_some, some_is}
+use Rattle.meaning.proofs.EqualityTests.{none_is_some, some_is}
 use Rattle.lifting.proofs.ReadTemplatePlaces.{after, next, IsPlacedAt, placed_at, of_document}
 
 -- ---- the variables in scope, whatever the templates are called

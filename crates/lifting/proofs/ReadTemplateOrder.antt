@@ -14,7 +14,7 @@ use Rattle.meaning.specs.TemplateTexts.{node_kind, variable_of, kind_of}
 use Rattle.meaning.specs.TemplateRules.{NodeContext, KindWord, kind_named, kind_in, is_goal, is_use, stands_in_place, stands_under_it, number_above, node_above, holds_for_some, earlier_template, arguments_fit, use_is_right}
 use Rattle.meaning.proofs.EmptyLists.{both_true}
 use Rattle.meaning.proofs.AbsentMembers.{absent}
-use Rattle.lifting.proofs.EqualityTests.{not_both, none_is_some, some_is, equal_texts}
+use Rattle.meaning.proofs.EqualityTests.{not_both, none_is_some, some_is, equal_texts}
 use Rattle.lifting.proofs.ReadTemplateNodes.{names_of, above_of, read_context}
 
 -- ---- what may be absent

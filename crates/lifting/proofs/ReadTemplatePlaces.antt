@@ -6,7 +6,7 @@ use Rattle.meaning.specs.Documents.{Document}
 use Rattle.meaning.specs.Models.{Model}
 use Rattle.meaning.specs.QueryTexts.{Scope}
 use Rattle.meaning.specs.TemplateTexts.{Placed, place_under, nodes_after}
-use Rattle.lifting.proofs.EqualityTests.{none_is_some}
+use Rattle.meaning.proofs.EqualityTests.{none_is_some}
 
 -- ---- lists
 

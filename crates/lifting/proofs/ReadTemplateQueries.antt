@@ -14,7 +14,7 @@ use Rattle.meaning.specs.BundlePlaces.{text_of_member}
 use Rattle.meaning.specs.TemplateTexts.{query_at}
 use Rattle.meaning.specs.TemplateRules.{NodeContext, scope_of, query_fault_at, first_query_fault}
 use Rattle.lifting.specs.FittingTemplates.{FewVariables}
-use Rattle.lifting.proofs.EqualityTests.{not_both, none_is_some, some_is}
+use Rattle.meaning.proofs.EqualityTests.{not_both, none_is_some, some_is}
 use Rattle.lifting.proofs.ReadTemplateOrder.{and_then_some, map_some, both_none}
 
 -- ---- the tokens with their places are the tokens

@@ -11,8 +11,8 @@ use Rattle.meaning.specs.ModelRules.{faults_in_item}
 use Rattle.meaning.specs.ExpressionFaults.{TextFault}
 use Rattle.meaning.specs.TemplateRules.{NodeContext, context_of, templates_in, last_has_no_parameters, has_nodes, template_form, template_rules, parameter_rules, node_texts_fit, node_form, stands_in_place, has_its_members, first_query_fault, place_if_any, hole_fault_of_node, use_is_right, node_rules, node_faults, list_rules, template_faults}
 use Rattle.meaning.proofs.CutTrees.{Each}
-use Rattle.lifting.proofs.Lists.{map_nothing}
-use Rattle.lifting.proofs.EqualityTests.{none_is_some, some_is}
+use Rattle.meaning.proofs.Lists.{map_nothing}
+use Rattle.meaning.proofs.EqualityTests.{none_is_some, some_is}
 
 -- ---- lists with nothing in them
 

@@ -16,8 +16,8 @@ use Rattle.meaning.proofs.CutTrees.{Each}
 use Rattle.meaning.proofs.EachMembers.{each_by}
 use Rattle.meaning.proofs.EmptyLists.{both_true}
 use Rattle.lifting.specs.ScopedTemplates.{bound_by}
-use Rattle.lifting.proofs.Lists.{each_two, each_passes}
-use Rattle.lifting.proofs.EqualityTests.{not_both, some_is}
+use Rattle.meaning.proofs.Lists.{each_two, each_passes}
+use Rattle.meaning.proofs.EqualityTests.{not_both, some_is}
 use Rattle.lifting.proofs.TemplateDepth.{IsChild, annotations_are_children, supporters_are_children}
 use Rattle.lifting.proofs.ReadTemplateRules.{TemplateKeeps}
 use Rattle.lifting.proofs.ReadTemplatePlaces.{get_within, placed_at}

@@ -15,7 +15,7 @@ use Rattle.meaning.proofs.CutTrees.{Each}
 use Rattle.meaning.proofs.EmptyLists.{both_true, all_true}
 use Rattle.lifting.specs.ThereElements.{PartFits}
 use Rattle.lifting.specs.FittingTemplates.{IsTextPart}
-use Rattle.lifting.proofs.EqualityTests.{none_is_some, some_is}
+use Rattle.meaning.proofs.EqualityTests.{none_is_some, some_is}
 use Rattle.lifting.proofs.ReadTemplateOrder.{map_some, both_none}
 
 -- ---- lists, and lists that may be absent

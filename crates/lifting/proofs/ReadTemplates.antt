@@ -20,7 +20,7 @@ use Rattle.lifting.specs.ThereElements.{PartFits}
 use Rattle.lifting.specs.ScopedTemplates.{bound_by, AreScoped}
 use Rattle.templates.specs.ReadOver.{AreRead}
 use Rattle.lifting.specs.FittingTemplates.{IsTextPart, FewVariables, TemplatesFit, HaveNoSolutions}
-use Rattle.lifting.proofs.EqualityTests.{none_is_some, some_is, same_number, equal_numbers}
+use Rattle.meaning.proofs.EqualityTests.{none_is_some, some_is, same_number, equal_numbers}
 use Rattle.lifting.proofs.ReadTemplateRules.{NodeKeeps, TemplateKeeps, templates_keep}
 use Rattle.lifting.proofs.ReadTemplatePlaces.{get_within}
 use Rattle.lifting.proofs.ReadTemplateNodes.{names_of, nodes_in, read_context, get_mapped, IsReadAt, read_at}

@@ -8,10 +8,10 @@ use Rattle.meaning.specs.Templates.{moved, key_below, key_in_branch}
 use Rattle.meaning.specs.Tidy.{key_above}
 use Rattle.meaning.proofs.CutTrees.{Tree, Each, IsWithin, IsWhole, HangsTogether, no_tree, nodes_of, tree_over, link_down, links_below, whole_over}
 use Rattle.meaning.proofs.MappedLists.{map_of_map}
-use Rattle.lifting.specs.KeySteps.{IsSmall}
+use Rattle.meaning.proofs.KeySteps.{IsSmall}
 use Rattle.lifting.specs.RootedTrees.{IsRooted, HangsUnder, BeginsAt, key_at}
-use Rattle.lifting.proofs.KeyTexts.{above_below, above_in_branch}
-use Rattle.lifting.proofs.Lists.{each_append, map_nothing}
+use Rattle.meaning.proofs.KeyTexts.{above_below, above_in_branch}
+use Rattle.meaning.proofs.Lists.{each_append, map_nothing}
 
 -- ---- numbers in a row
 

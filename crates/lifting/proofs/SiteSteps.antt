@@ -12,16 +12,16 @@ use Rattle.meaning.specs.Tidy.{whole_model, Among}
 use Rattle.meaning.proofs.CutTrees.{Each}
 use Rattle.meaning.proofs.EachMembers.{each_by}
 use Rattle.path_queries.specs.Answering.{tuples_of, tuples_at}
-use Rattle.lifting.specs.KeySteps.{IsSmall}
+use Rattle.meaning.proofs.KeySteps.{IsSmall}
 use Rattle.lifting.specs.ScopedTemplates.{bound_by}
 use Rattle.lifting.specs.ThereElements.{IsThere}
 use Rattle.lifting.specs.Sites.{Site, FirstSite, SiteBelow, RowSites, AreRows, tuples_of_each, stands_below}
-use Rattle.lifting.proofs.Lists.{each_append}
+use Rattle.meaning.proofs.Lists.{each_append}
 use Rattle.lifting.proofs.AmongLists.{among_each}
-use Rattle.lifting.proofs.EqualityTests.{none_is_some, some_is}
-use Rattle.lifting.proofs.KeysDiffer.{small_elements}
+use Rattle.meaning.proofs.EqualityTests.{none_is_some, some_is}
+use Rattle.meaning.proofs.KeysDiffer.{small_elements}
 use Rattle.lifting.proofs.TupleLengths.{tuple_lengths}
-use Rattle.lifting.proofs.Members.{Member, member_of_contains, member_each, member_mapped}
+use Rattle.meaning.proofs.Members.{Member, member_of_contains, member_each, member_mapped}
 use Rattle.lifting.proofs.ThereElements.{each_of_tuples, each_of_arguments, answers_are_there}
 
 -- the number of each that passes is one that the property holds of

@@ -11,8 +11,8 @@ use Rattle.meaning.specs.Entries.{under}
 use Rattle.meaning.proofs.CutTrees.{Each}
 use Rattle.meaning.proofs.EachMembers.{each_filtered, each_by}
 use Rattle.lifting.specs.OrderedTemplates.{StandsAt, AreOrdered, instance_of}
-use Rattle.lifting.proofs.Lists.{each_two, each_of_all, map_same, flat_same, each_passes}
-use Rattle.lifting.proofs.EqualityTests.{equal_numbers, not_both, none_is_some}
+use Rattle.meaning.proofs.Lists.{each_two, each_of_all, map_same, flat_same, each_passes}
+use Rattle.meaning.proofs.EqualityTests.{equal_numbers, not_both, none_is_some}
 use Rattle.meaning.proofs.EmptyLists.{both_true}
 
 -- ---- the nodes of a template with their numbers

@@ -11,9 +11,9 @@ use Rattle.meaning.proofs.CutTrees.{Each}
 use Rattle.meaning.proofs.EachMembers.{each_filtered}
 use Rattle.meaning.proofs.NumberedElements.{each_found}
 use Rattle.lifting.specs.ThereElements.{IsThere}
-use Rattle.lifting.proofs.Lists.{each_append}
+use Rattle.meaning.proofs.Lists.{each_append}
 use Rattle.lifting.proofs.TemplateDepth.{each_numbered}
-use Rattle.lifting.proofs.EqualityTests.{same_number, other_number, none_is_some}
+use Rattle.meaning.proofs.EqualityTests.{same_number, other_number, none_is_some}
 
 -- ---- what holds of the elements of a plain model holds of all elements of its answers
 

@@ -9,9 +9,9 @@ use Rattle.meaning.specs.Tidy.{Tidy, instance_at, node_with_key}
 use Rattle.meaning.specs.Models.{model_at}
 use Rattle.meaning.proofs.MappedLists.{map_of_map}
 use Rattle.lifting.specs.Lifting.{Seen, key_seen}
-use Rattle.lifting.proofs.Pairs.{Pairwise, pairs_from_map, pairs_from_all_differ}
+use Rattle.meaning.proofs.Pairs.{Pairwise, pairs_from_map, pairs_from_all_differ}
 use Rattle.lifting.proofs.AmongLists.{among_mapped, among_filtered, among_pairs}
-use Rattle.lifting.proofs.Members.{Member, member_mapped, mapped_member, member_each}
+use Rattle.meaning.proofs.Members.{Member, member_mapped, mapped_member, member_each}
 use Rattle.lifting.proofs.InstanceNodes.{TellsNothing, without_verdict}
 
 -- ---- looking for a key

@@ -3,8 +3,8 @@ use Rattle.std.proofs.Common.{◌≡◌, ℕ, suc, List, [], ◌∷◌, map, len
 use Rattle.meaning.specs.Models.{PlainModel}
 use Rattle.meaning.specs.Queries.{tuples, elements_of_type}
 use Rattle.meaning.proofs.CutTrees.{Each}
-use Rattle.lifting.proofs.Lists.{each_of_all}
-use Rattle.lifting.proofs.Pairs.{each_of_flat}
+use Rattle.meaning.proofs.Lists.{each_of_all}
+use Rattle.meaning.proofs.Pairs.{each_of_flat}
 
 lengths_in_front : (k e : ℕ) (ts : List (List ℕ)) → Each (λ t. length t ≡ k) ts → Each (λ t. length t ≡ suc k) (map (λ es. e ∷ es) ts)
 lengths_in_front k e [] h = tt

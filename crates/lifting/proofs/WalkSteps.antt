@@ -12,12 +12,12 @@ use Rattle.meaning.proofs.CutTrees.{Each}
 use Rattle.path_queries.specs.Answering.{tuples_of, tuples_at}
 use Rattle.lifting.specs.declared.growing.Growing.{Growing}
 use Rattle.lifting.specs.declared.stop.LiftStop.{LiftStop}
-use Rattle.lifting.specs.KeySteps.{IsSmall}
+use Rattle.meaning.proofs.KeySteps.{IsSmall}
 use Rattle.lifting.specs.Stops.{Halts}
 use Rattle.lifting.specs.Overflows.{Overflows}
 use Rattle.lifting.specs.ThereElements.{IsThere}
 use Rattle.lifting.specs.Sites.{Site, SiteBelow, RowSites, LiesBelow, AddsNode, AddsBelow, stands_below, below_among, branch_front, instances_below, keys_below, instances_of_tuples, keys_of_tuples}
-use Rattle.lifting.proofs.KeyTexts.{above_in_branch}
+use Rattle.meaning.proofs.KeyTexts.{above_in_branch}
 use Rattle.lifting.proofs.LiftingSteps.{adds_none, adds_as, adds_later}
 use Rattle.lifting.proofs.LoopSteps.{at_place, one_more_below, none_more_below, one_more_row}
 use Rattle.lifting.proofs.SiteSteps.{below_site_later, child_site}

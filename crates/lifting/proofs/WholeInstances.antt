@@ -27,7 +27,7 @@ use Rattle.lifting.specs.Stops.{Halts}
 use Rattle.lifting.specs.Overflows.{Overflows, TooManyEntries}
 use Rattle.lifting.proofs.OverflowEntries.{too_many_entries, few_of_fit}
 use Rattle.lifting.proofs.PlacedNodes.{halts_weaker}
-use Rattle.lifting.proofs.EqualityTests.{none_is_some}
+use Rattle.meaning.proofs.EqualityTests.{none_is_some}
 use Rattle.lifting.proofs.LiftedTrees.{lifts_nothing, lifts_under}
 use Rattle.lifting.proofs.RootedTrees.{rooted_never}
 use Rattle.lifting.proofs.AmongLists.{among_nothing}

@@ -24,7 +24,7 @@ use Rattle.lifting.specs.LiftedInstances.{tree_of}
 use Rattle.lifting.specs.Noted.{Noted, there_at, seen_at, Stands, relation_of, conditions_to}
 use Rattle.lifting.proofs.HeldValues.{those_held, held_rows}
 use Rattle.lifting.proofs.MappedTrees.{lifts_mapped}
-use Rattle.lifting.proofs.Pairs.{each_of_map}
+use Rattle.meaning.proofs.Pairs.{each_of_map}
 use Rattle.lifting.proofs.SeenNodes.{count_rows}
 
 -- the conditions of a note, of its node and of its rows, have a property

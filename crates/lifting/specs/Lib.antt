@@ -1,7 +1,6 @@
 pub mod OrderedTemplates
 pub mod Lifting
 pub mod ThereElements
-pub mod KeySteps
 pub mod RootedTrees
 pub mod LiftedCases
 pub mod ScopedTemplates
@@ -12,6 +11,5 @@ pub mod Noted
 pub mod Sites
 pub mod LiftedInstances
 pub mod TextParts
-pub mod Members
 pub mod Overflows
 pub mod FittingBundles

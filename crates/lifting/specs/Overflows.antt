@@ -9,7 +9,7 @@ use Rattle.meaning.specs.Entries.{Entry, entries_of_node, most_entries}
 use Rattle.meaning.specs.Texts.{flat}
 use Rattle.meaning.proofs.CutTrees.{Each}
 use Rattle.lifting.specs.Lifting.{Seen}
-use Rattle.lifting.specs.Members.{Member, Pairwise}
+use Rattle.meaning.proofs.Members.{Member, Pairwise}
 
 -- a key with tuples
 abbrev pub Group : Type 0

@@ -17,7 +17,7 @@ use Rattle.lifting.specs.declared.growing.Growing.{Growing}
 use Rattle.lifting.specs.OrderedTemplates.{StandsAt}
 use Rattle.lifting.specs.FittingTemplates.{TemplatesFit}
 use Rattle.lifting.specs.ThereElements.{IsThere}
-use Rattle.lifting.specs.KeySteps.{IsSmall}
+use Rattle.meaning.proofs.KeySteps.{IsSmall}
 use Rattle.lifting.specs.Noted.{Note, Noted, Stands, LiftsNode, LiftsBelow, Grows, seen_at, linked, links_at, conditions_to, entries_of}
 
 -- ---- templates

@@ -2,7 +2,7 @@
 use Rattle.std.proofs.Common.{◌≡◌, refl, sym, ap, ◌∙◌, ℕ, zero, suc, ◌≤◌, List, [], ◌∷◌, length, Bool, true, false, ◌&&◌, inl, inr, arith}
 use Rattle.std.specs.Prelude.{◌⊎◌, ◌==◌}
 use Rattle.std.specs.List.{list_all}
-use Rattle.lifting.proofs.EqualityTests.{equal_numbers}
+use Rattle.meaning.proofs.EqualityTests.{equal_numbers}
 use Rattle.meaning.specs.Features.{Line, is_valid, respects_tree, respects_mandatory, respects_groups}
 use Rattle.meaning.specs.Expressions.{Expression, truth}
 use Rattle.meaning.specs.BundleRules.{NoWorldIsValid}
