@@ -8,7 +8,7 @@ use Rattle.meaning.specs.Tidy.{all_differ}
 use Rattle.meaning.proofs.CutTrees.{Each}
 use Rattle.meaning.proofs.EachMembers.{each_filtered, each_by}
 use Rattle.meaning.proofs.Lists.{each_append, each_two}
-use Rattle.meaning.proofs.Members.{Pairwise}
+pub use Rattle.meaning.proofs.Members.{Pairwise}
 
 -- ---- each
 
