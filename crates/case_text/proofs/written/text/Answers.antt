@@ -12,7 +12,7 @@ use Rattle.case_text.proofs.written.text.Goals as goal
 
 pub bounds-list-place : goal.bounds-list-place
 bounds-list-place c =
-    let a = ap length c.in_ok-statuses.ensures in
+    let a = ap length c.in_ok-statuses.ensures.statuses in
     let b = length_statuses (case_of c.args.case.now) in
     let d = length_nodes c.args.case.now.nodes in
     let e = length-map c.in_ok-statuses.statuses status_view in
@@ -82,7 +82,7 @@ nodes-preserved c =
     let g = ap length c.list-nodes.ensures in
     let l : c.nodes.place < length c.args.case.now.nodes = omega (arith, g, c.nodes-test.true) in
     let read : c.index-nodes-place.result ≡ get_or c.args.case.now.nodes c.nodes.place c.index-nodes-place.result = c.index-nodes-place.is ∙ ap (λ xs. get_or xs k n) c.list-nodes.ensures in
-    let sa = ap length c.in_ok-statuses.ensures in
+    let sa = ap length c.in_ok-statuses.ensures.statuses in
     let sb = length_statuses (case_of c.args.case.now) in
     let sd = length_nodes c.args.case.now.nodes in
     let se = length-map c.in_ok-statuses.statuses status_view in
@@ -91,7 +91,7 @@ nodes-preserved c =
     (map string_bytes c.deref.result.now) _ c.deref-in-nodes.result.now c.deref-in-nodes-2.result.now c.nodes.out.items c.put_node.new.out.items
     (slice_get-get_or ns k n l ∙ ap (λ x. Some x) (sym read))
     (ap (map string_bytes) c.deref.ensures.value ∙ c.in_ok-identifiers.ensures)
-    (told_at c.list.result.now (plain.statuses (case_of c.args.case.now)) c.nodes.place _ (ap (map status_view) c.list.ensures ∙ c.in_ok-statuses.ensures) (omega (arith, sa, sb, sd, se, sf, l)))
+    (told_at c.list.result.now (plain.statuses (case_of c.args.case.now)) c.nodes.place _ (ap (map status_view) c.list.ensures ∙ c.in_ok-statuses.ensures.statuses) (omega (arith, sa, sb, sd, se, sf, l)))
     (gathered plain.InContextOf c.list-relations.result.now c.args.case.now.relations c.nodes.place (map (λ list. list.items) c.in_ok-contexts.contexts.items) c.deref-in-nodes.result.now
     c.list-relations.ensures c.in_ok-contexts.ensures.targets
     (c.deref-in-nodes.ensures.value ∙ (ap (λ list. list.items) c.index.ensures ∙ sym (get_or-map (λ list. list.items) c.in_ok-contexts.contexts.items c.nodes.place c.index.result.now [] there))))
