@@ -19,26 +19,11 @@ use Rattle.workbench.specs.declared.status.Status.{Status}
 use Rattle.workbench.specs.declared.status.Status.TheVariants as status
 use Rattle.workbench.specs.BuildingStage.{building_cases}
 use Rattle.workbench.specs.BundleView.{bundle_view}
-use Rattle.workbench.specs.Limits.{IsOpenedWith, HasFewFeatures, diagrams_of}
+use Rattle.workbench.specs.Limits.{diagrams_of}
 use Rattle.workbench.specs.Products.{SameLimits, StopsOver}
 use Rattle.workbench.specs.Run.{StopsBuilding}
 use Rattle.workbench.specs.Readings.{IsGoodBundle, StopsBundle}
-use Rattle.workbench.proofs.FewFeatures.{refused_below, read_has_few}
-
--- ---- diagrams
-
-some_number : (n : ℕ) → 1 ≤ n → (n == 0) ≡ false
-some_number n some = grind (arith, nat_tests)
-
-is_open : (new : State) (limit : ℕ) → 1 ≤ limit → new.region.limit ≡ limit → (diagrams_of new).is_open ≡ true
-is_open new limit some e = ap not (some_number new.region.limit (omega (arith, e)))
-
-pub is_shut : (new : State) → new.region.limit ≡ 0 → (diagrams_of new).is_open ≡ false
-is_shut new e = ap (λ m. not (m == 0)) e
-
--- diagrams that are shut are not open
-pub shut_is_opened : (limit : ℕ) (new : State) → new.region.limit ≡ 0 → IsOpenedWith limit (diagrams_of new)
-shut_is_opened limit new e there = absurd (let n : false ≡ true = sym (ap (λ m. not (m == 0)) e) ∙ there in cc)
+use Rattle.workbench.proofs.OpenedDiagrams.{is_open, refused_below}
 
 -- ---- over diagrams
 
@@ -61,27 +46,26 @@ module _ (b : Bundle) where
 
   -- why there is no case, for diagrams that were opened with the limit
   pub stops_building : (limit : ℕ) (old opened new : State) (s : Status) → 1 ≤ limit → opened.region.limit ≡ limit → opened.refused ≡ old.refused
-      → opened.region.vars ≡ length (feature_names b.line) → SameLimits opened new → new.refused ≤ greatest_count → IsBounded (algebra_of new) → StopsOver b opened new s
-      → StopsBuilding limit (length (feature_names b.line) ≤ 4) (diagrams_of old) (diagrams_of new) (IsBuildAnswer building_cases b ShowsCase) s
-  stops_building limit old opened new status.Done some with_limit same vars kept few bounded h = absurd h
-  stops_building limit old opened new status.BadWords some with_limit same vars kept few bounded h = absurd h
-  stops_building limit old opened new (status.BadBundle fault) some with_limit same vars kept few bounded h = h
-  stops_building limit old opened new (status.BadConfig rule at) some with_limit same vars kept few bounded h = h
-  stops_building limit old opened new status.NotValid some with_limit same vars kept few bounded h = h
-  stops_building limit old opened new (status.BadCase fault) some with_limit same vars kept few bounded h = h
-  stops_building limit old opened new (status.NodeLimit used) some with_limit same vars kept few bounded h = record {
-    used_all = h.0 ∙ with_limit;
+      → SameLimits opened new → new.refused ≤ greatest_count → IsBounded (algebra_of new) → StopsOver b opened new s
+      → StopsBuilding (diagrams_of old) (diagrams_of new) (IsBuildAnswer building_cases b ShowsCase) s
+  stops_building limit old opened new status.Done some with_limit same kept few bounded h = absurd h
+  stops_building limit old opened new status.BadWords some with_limit same kept few bounded h = absurd h
+  stops_building limit old opened new (status.BadBundle fault) some with_limit same kept few bounded h = h
+  stops_building limit old opened new (status.BadConfig rule at) some with_limit same kept few bounded h = h
+  stops_building limit old opened new status.NotValid some with_limit same kept few bounded h = h
+  stops_building limit old opened new (status.BadCase fault) some with_limit same kept few bounded h = h
+  stops_building limit old opened new (status.NodeLimit used) some with_limit same kept few bounded h = record {
+    is_open = is_open new limit some (kept.limit ∙ with_limit);
+    used_all = h.0 ∙ sym kept.limit;
     cause = subst (λ n. Rose n new.refused) same (rose_if_raised opened.refused new.refused few h.1);
-    opened = is_open new limit some (kept.limit ∙ with_limit);
-    with_limit = kept.limit ∙ with_limit;
-    few = refused_below new opened.refused (length (feature_names b.line)) limit bounded h.1 (kept.vars ∙ vars) (kept.limit ∙ with_limit);
+    few = refused_below new opened.refused bounded h.1;
   }
-  stops_building limit old opened new (status.BigCase entries) some with_limit same vars kept few bounded h = h
-  stops_building limit old opened new (status.TooLong n) some with_limit same vars kept few bounded h = absurd h
-  stops_building limit old opened new (status.ReadFault n) some with_limit same vars kept few bounded h = absurd h
-  stops_building limit old opened new status.WriteFault some with_limit same vars kept few bounded h = absurd h
-  stops_building limit old opened new status.NoMemory some with_limit same vars kept few bounded h = tt
-  stops_building limit old opened new status.Unsupported some with_limit same vars kept few bounded h = h
+  stops_building limit old opened new (status.BigCase entries) some with_limit same kept few bounded h = h
+  stops_building limit old opened new (status.TooLong n) some with_limit same kept few bounded h = absurd h
+  stops_building limit old opened new (status.ReadFault n) some with_limit same kept few bounded h = absurd h
+  stops_building limit old opened new status.WriteFault some with_limit same kept few bounded h = absurd h
+  stops_building limit old opened new status.NoMemory some with_limit same kept few bounded h = tt
+  stops_building limit old opened new status.Unsupported some with_limit same kept few bounded h = h
 
 -- ---- answers
 
@@ -103,42 +87,36 @@ module _ (name bytes : List ℕ) where
   faulty fs f e h = after (Faulty fs) (refusal (BadBundle f)) e (f, h, refl)
 
   -- the bundle's own refusals, whatever the diagrams are
-  pub bundle_stops : (limit : ℕ) (old new : Diagrams) (s : Status) → StopsBundle (bundle_in building_cases name bytes) s
-      → StopsBuilding limit (HasFewFeatures (bundle_in building_cases name bytes)) old new (IsAnswer building_cases (Build name) (bytes ∷ [])) s
-  bundle_stops limit old new status.Done h = absurd h
-  bundle_stops limit old new status.BadWords h = absurd h
-  bundle_stops limit old new (status.BadBundle f) h = faulty h.0 (fault_of f) h.1 (first_is_contained h.0 (fault_of f) h.2)
-  bundle_stops limit old new (status.BadConfig rule at) h = absurd h
-  bundle_stops limit old new status.NotValid h = absurd h
-  bundle_stops limit old new (status.BadCase fault) h = absurd h
-  bundle_stops limit old new (status.NodeLimit used) h = absurd h
-  bundle_stops limit old new (status.BigCase entries) h = absurd h
-  bundle_stops limit old new (status.TooLong k) h = absurd h
-  bundle_stops limit old new (status.ReadFault k) h = absurd h
-  bundle_stops limit old new status.WriteFault h = absurd h
-  bundle_stops limit old new status.NoMemory h = tt
-  bundle_stops limit old new status.Unsupported h = after NotBuilt (refusal Unsupported) h refl
+  pub bundle_stops : (old new : Diagrams) (s : Status) → StopsBundle (bundle_in building_cases name bytes) s
+      → StopsBuilding old new (IsAnswer building_cases (Build name) (bytes ∷ [])) s
+  bundle_stops old new status.Done h = absurd h
+  bundle_stops old new status.BadWords h = absurd h
+  bundle_stops old new (status.BadBundle f) h = faulty h.0 (fault_of f) h.1 (first_is_contained h.0 (fault_of f) h.2)
+  bundle_stops old new (status.BadConfig rule at) h = absurd h
+  bundle_stops old new status.NotValid h = absurd h
+  bundle_stops old new (status.BadCase fault) h = absurd h
+  bundle_stops old new (status.NodeLimit used) h = absurd h
+  bundle_stops old new (status.BigCase entries) h = absurd h
+  bundle_stops old new (status.TooLong k) h = absurd h
+  bundle_stops old new (status.ReadFault k) h = absurd h
+  bundle_stops old new status.WriteFault h = absurd h
+  bundle_stops old new status.NoMemory h = tt
+  bundle_stops old new status.Unsupported h = after NotBuilt (refusal Unsupported) h refl
 
   -- what stops the building of a good bundle
-  pub building_stops : (limit : ℕ) (old new : Diagrams) (b : code.Bundle) (s : Status) → IsGoodBundle (bundle_in building_cases name bytes) b
-      → StopsBuilding limit (length (feature_names (bundle_view b).line) ≤ 4) old new (IsBuildAnswer building_cases (bundle_view b) ShowsCase) s
-      → StopsBuilding limit (HasFewFeatures (bundle_in building_cases name bytes)) old new (IsAnswer building_cases (Build name) (bytes ∷ [])) s
-  building_stops limit old new b status.Done i h = absurd h
-  building_stops limit old new b status.BadWords i h = absurd h
-  building_stops limit old new b (status.BadBundle fault) i h = build_answered b _ i h
-  building_stops limit old new b (status.BadConfig rule at) i h = build_answered b _ i h
-  building_stops limit old new b status.NotValid i h = build_answered b _ i h
-  building_stops limit old new b (status.BadCase fault) i h = build_answered b _ i h
-  building_stops limit old new b (status.NodeLimit used) i h = record {
-    used_all = h.used_all;
-    cause = h.cause;
-    opened = h.opened;
-    with_limit = h.with_limit;
-    few = λ x. h.few (read_has_few (bundle_in building_cases name bytes) b i x);
-  }
-  building_stops limit old new b (status.BigCase entries) i h = build_answered b _ i h
-  building_stops limit old new b (status.TooLong k) i h = absurd h
-  building_stops limit old new b (status.ReadFault k) i h = absurd h
-  building_stops limit old new b status.WriteFault i h = absurd h
-  building_stops limit old new b status.NoMemory i h = tt
-  building_stops limit old new b status.Unsupported i h = build_answered b _ i h
+  pub building_stops : (old new : Diagrams) (b : code.Bundle) (s : Status) → IsGoodBundle (bundle_in building_cases name bytes) b
+      → StopsBuilding old new (IsBuildAnswer building_cases (bundle_view b) ShowsCase) s
+      → StopsBuilding old new (IsAnswer building_cases (Build name) (bytes ∷ [])) s
+  building_stops old new b status.Done i h = absurd h
+  building_stops old new b status.BadWords i h = absurd h
+  building_stops old new b (status.BadBundle fault) i h = build_answered b _ i h
+  building_stops old new b (status.BadConfig rule at) i h = build_answered b _ i h
+  building_stops old new b status.NotValid i h = build_answered b _ i h
+  building_stops old new b (status.BadCase fault) i h = build_answered b _ i h
+  building_stops old new b (status.NodeLimit used) i h = h
+  building_stops old new b (status.BigCase entries) i h = build_answered b _ i h
+  building_stops old new b (status.TooLong k) i h = absurd h
+  building_stops old new b (status.ReadFault k) i h = absurd h
+  building_stops old new b status.WriteFault i h = absurd h
+  building_stops old new b status.NoMemory i h = tt
+  building_stops old new b status.Unsupported i h = build_answered b _ i h

@@ -32,7 +32,7 @@ use Rattle.lifted_case.specs.CaseWritten.{IsWrittenFrom, conditions_in}
 use Rattle.lifted_case.specs.declared.case_bytes.CaseStop.{CaseStop}
 use Rattle.lifted_case.specs.declared.case_bytes.CaseStop.TheVariants as write
 use Rattle.lifting.specs.Stops.{Halts}
-use Rattle.lifting.specs.FittingTemplates.{TemplatesFit}
+use Rattle.lifting.specs.FittingTemplates.{TemplatesFit, HaveNoSolutions}
 use Rattle.lifting.specs.FittingBundles.{BundleFits}
 use Rattle.lifting.specs.LiftedInstances.{IsLiftedInstance}
 use Rattle.lifting.specs.Overflows.{TooManyEntries}
@@ -73,9 +73,8 @@ module _ (b : code.Bundle) (h : IsReadBundle b) where
   pub bundle_fits : BundleFits (bundle_view b)
   bundle_fits = subst BundleFits (sym h.of_document.is) (read_bundle_fits h.document h.rules templates_fit)
 
-  -- what the code hands on of it
-  pub listed_templates_fit : (ts : List Template) → ts ≡ b.templates → TemplatesFit ts
-  listed_templates_fit ts e = subst TemplatesFit (sym e) bundle_fits.templates
+  pub without_solutions : HaveNoSolutions b.templates
+  without_solutions = record { no_solution = bundle_fits.templates.no_solution; unchecked = bundle_fits.templates.unchecked }
 
   pub names_features : (count : ℕ) → count ≡ length (feature_names (line_view b.line)) → NamesFeatures count b.model
   names_features count e = subst (λ n. NamesFeatures n b.model) (sym e) h.of_document.names

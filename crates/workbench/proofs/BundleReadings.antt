@@ -31,7 +31,7 @@ pub is_read : (name : List ℕ) → is_unread building_cases name ≡ false
 is_read name = never_both (is_toml name)
 
 module _ (name bytes : List ℕ) where
-  reading : bundle_in building_cases name bytes
+  pub reading : bundle_in building_cases name bytes
       ≡ unless_faulty (faults_of_bytes bundle_faults (form_named name) bytes) (if_built building_cases (document_of (form_named name) bytes))
   unfolding bundle_in
   reading =

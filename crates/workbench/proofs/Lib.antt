@@ -1,13 +1,14 @@
 pub mod Exits
-pub mod FewFeatures
 pub mod FileReads
 pub mod CommandLines
 pub mod StatusLines
 pub mod BundleReadings
+pub mod RuleNumbers
 pub mod BundleParts
 pub mod ProductWorlds
 pub mod BundleFacts
 pub mod ProductFacts
+pub mod OpenedDiagrams
 pub mod BuildAnswers
 pub mod WorldReadings
 pub mod TextAnswers

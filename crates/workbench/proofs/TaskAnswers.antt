@@ -6,13 +6,12 @@ use Rattle.meaning.specs.TopCall.{Outside, Diagrams, AllWithin, AgreeWith}
 use Rattle.workbench.specs.declared.status.Status.{Status}
 use Rattle.workbench.specs.declared.status.Status.TheVariants as status
 use Rattle.workbench.specs.BuildingStage.{building_cases}
-use Rattle.workbench.specs.Limits.{HasFewFeatures}
+use Rattle.workbench.specs.Limits.{IfOpen, OpenedForFiles, OpenedForTask}
 use Rattle.workbench.specs.Run.{IsFileOf, StopsFiles, Refuses, StopsBuilding, AnswersTask, StopsTask}
 use Rattle.workbench.proofs.TextAnswers.{refuses_by}
-use Rattle.workbench.proofs.FewFeatures.{built_has_few}
 
-module _ (task : Task) (limit : ℕ) (before after : Outside) (old new : Diagrams) where
-  pub files_stop : (s : Status) → StopsFiles (files_of task) before after s → StopsTask task limit before after old new s
+module _ (task : Task) (before after : Outside) (old new : Diagrams) where
+  pub files_stop : (s : Status) → StopsFiles (files_of task) before after s → StopsTask task before after old new s
   files_stop status.Done h = absurd h
   files_stop status.BadWords h = absurd h
   files_stop (status.BadBundle fault) h = absurd h
@@ -27,7 +26,7 @@ module _ (task : Task) (limit : ℕ) (before after : Outside) (old new : Diagram
   files_stop status.NoMemory h = tt
   files_stop status.Unsupported h = absurd h
 
-  pub refusal_stops : (s : Status) → Refuses (AnswersTask task before) s → StopsTask task limit before after old new s
+  pub refusal_stops : (s : Status) → Refuses (AnswersTask task before) s → StopsTask task before after old new s
   refusal_stops status.Done h = absurd h
   refusal_stops status.BadWords h = absurd h
   refusal_stops (status.BadBundle fault) h = h
@@ -47,7 +46,7 @@ module _ (task : Task) (limit : ℕ) (before after : Outside) (old new : Diagram
     pub task_answered : (a : Answer) → IsAnswer building_cases task files a → AnswersTask task before a
     task_answered a h = record { files = files; agree = agree; is = h }
 
-    pub task_refused : (s : Status) → Refuses (IsAnswer building_cases task files) s → StopsTask task limit before after old new s
+    pub task_refused : (s : Status) → Refuses (IsAnswer building_cases task files) s → StopsTask task before after old new s
     task_refused s h = refusal_stops s (refuses_by (IsAnswer building_cases task files) (AnswersTask task before) task_answered s h)
 
 -- diagrams of which nothing matters
@@ -64,37 +63,22 @@ pub two_files : (before : Outside) (fs : List File) (bytes chosen first second :
 two_files before fs bytes chosen first second e f a =
     subst (λ x. AgreeWith before fs (x ∷ second ∷ [])) (sym e) (subst (λ y. AgreeWith before fs (bytes ∷ y ∷ [])) (sym f) a)
 
--- the one file of a build is within its limit
-build_within : (name : List ℕ) (before : Outside) (bytes : List ℕ) → IsFileOf (before.holds name) 16777216 bytes → AllWithin before (files_of (Build name))
-build_within name before bytes read zero f is those told =
-    let file : bundle_file name ≡ f = cc in
-    subst (λ (g : File). length those ≤ g.most) file
-    (subst (λ (s : List ℕ). length s ≤ 16777216) (sym (read.agree those (ap (λ (g : File). before.holds g.name) file ∙ told))) read.short)
-build_within name before bytes read (suc k) f is those told = absurd (let n : None ≡ Some f = is in cc)
-
 -- what stops a build, from what was read of its file
-module _ (name : List ℕ) (limit : ℕ) (before after : Outside) (old new : Diagrams) (bytes : List ℕ) (read : IsFileOf (before.holds name) 16777216 bytes) where
-  pub build_stops : (s : Status) → StopsBuilding limit (HasFewFeatures (bundle_in building_cases name bytes)) old new (IsAnswer building_cases (Build name) (bytes ∷ [])) s → StopsTask (Build name) limit before after old new s
+module _ (name : List ℕ) (before after : Outside) (old new : Diagrams) (bytes : List ℕ) (read : IsFileOf (before.holds name) 16777216 bytes) where
+  pub build_stops : (s : Status) → StopsBuilding old new (IsAnswer building_cases (Build name) (bytes ∷ [])) s → StopsTask (Build name) before after old new s
   build_stops status.Done h = absurd h
   build_stops status.BadWords h = absurd h
-  build_stops (status.BadBundle fault) h = task_answered (Build name) limit before after old new (bytes ∷ []) (one_file name before bytes read) _ h
-  build_stops (status.BadConfig rule at) h = task_answered (Build name) limit before after old new (bytes ∷ []) (one_file name before bytes read) _ h
-  build_stops status.NotValid h = task_answered (Build name) limit before after old new (bytes ∷ []) (one_file name before bytes read) _ h
-  build_stops (status.BadCase fault) h = task_answered (Build name) limit before after old new (bytes ∷ []) (one_file name before bytes read) _ h
-  build_stops (status.NodeLimit used) h = record {
-    within = build_within name before bytes read;
-    with_diagrams = refl;
-    reached = record {
-      used_all = h.used_all;
-      cause = h.cause;
-      opened = h.opened;
-      with_limit = h.with_limit;
-      few = λ x. h.few (built_has_few name bytes before read.agree x);
-    };
-  }
-  build_stops (status.BigCase entries) h = task_answered (Build name) limit before after old new (bytes ∷ []) (one_file name before bytes read) _ h
+  build_stops (status.BadBundle fault) h = task_answered (Build name) before after old new (bytes ∷ []) (one_file name before bytes read) _ h
+  build_stops (status.BadConfig rule at) h = task_answered (Build name) before after old new (bytes ∷ []) (one_file name before bytes read) _ h
+  build_stops status.NotValid h = task_answered (Build name) before after old new (bytes ∷ []) (one_file name before bytes read) _ h
+  build_stops (status.BadCase fault) h = task_answered (Build name) before after old new (bytes ∷ []) (one_file name before bytes read) _ h
+  build_stops (status.NodeLimit used) h = h
+  build_stops (status.BigCase entries) h = task_answered (Build name) before after old new (bytes ∷ []) (one_file name before bytes read) _ h
   build_stops (status.TooLong k) h = absurd h
   build_stops (status.ReadFault k) h = absurd h
   build_stops status.WriteFault h = absurd h
   build_stops status.NoMemory h = tt
-  build_stops status.Unsupported h = task_answered (Build name) limit before after old new (bytes ∷ []) (one_file name before bytes read) _ h
+  build_stops status.Unsupported h = task_answered (Build name) before after old new (bytes ∷ []) (one_file name before bytes read) _ h
+
+  pub build_opened : (limit : ℕ) → IfOpen new (OpenedForFiles (Build name) (bytes ∷ []) limit new) → IfOpen new (OpenedForTask (Build name) before limit new)
+  build_opened limit h there = record { files = bytes ∷ []; agree = one_file name before bytes read; opened = h there }

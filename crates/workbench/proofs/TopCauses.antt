@@ -1,18 +1,18 @@
 -- From what the parts of the top call did to the causes that its promise gives.
 use Rattle.std.proofs.Common.{◌≡◌, refl, sym, ap, ◌∙◌, subst, inl, inr, ℕ, lit≤, List, [], ◌∷◌, length, true, false, arith}
-use Rattle.std.specs.Prelude.{◌⊎◌, Option, Some, None}
+use Rattle.std.specs.Prelude.{◌⊎◌, Option, Some, None, Bool, if◌then◌else◌}
 use Rattle.std.proofs.lemmas.List.{take_all, append-nil}
 use Rattle.meaning.specs.Counts.{appended}
 use Rattle.meaning.specs.Statuses as meaning
 use Rattle.meaning.specs.Statuses.{status_line}
 use Rattle.meaning.specs.Words.{Task, Invocation, File, files_of, uses_diagrams}
 use Rattle.meaning.specs.Answers.{Answer, Prints}
-use Rattle.meaning.specs.TopCall.{Outside, Says, IfTold, AgreeWith, Answered, Cause, OutKept, LinesOf, Promise, LeftShut, Diagrams}
+use Rattle.meaning.specs.TopCall.{Outside, Says, IfTold, AgreeWith, Answered, Cause, OutKept, LinesOf, Promise, OpenedFor, LimitMet, Leaves, open_under, open_after, Diagrams}
 use Rattle.workbench.specs.declared.status.Status.{Status}
 use Rattle.workbench.specs.declared.status.Status.TheVariants as status
 use Rattle.workbench.specs.StatusView.{status_view}
 use Rattle.workbench.specs.BuildingStage.{building_cases}
-use Rattle.workbench.specs.Limits.{IsOpenedWith, IsShutBut, BuildsFewFeatures, LimitAt, OpenedWith}
+use Rattle.workbench.specs.Limits.{IfOpen, LeftAs, OpenedForTask}
 use Rattle.workbench.specs.Run.{shelf_of, AnswersTask, StopsTask, Stops, Printed}
 
 -- ---- what is said
@@ -45,61 +45,71 @@ module _ (words : List (List ℕ)) (before after : Outside) (task : Task) (limit
     is = a.is;
   }
 
-  pub words_stop : (s : Status) → StopsTask task limit before after old new s → Stops words before after old new s
-  words_stop status.Done h = absurd h
-  words_stop status.BadWords h = absurd h
-  words_stop (status.BadBundle fault) h = record { answer = words_answered _ h }
-  words_stop (status.BadConfig rule at) h = record { answer = words_answered _ h }
-  words_stop status.NotValid h = record { answer = words_answered _ h }
-  words_stop (status.BadCase fault) h = record { answer = words_answered _ h }
-  words_stop (status.NodeLimit used) h = record {
+  words_opened : OpenedForTask task before limit new → OpenedFor building_cases words before new
+  words_opened h = record {
     invocation = record { task = task; node_limit = limit };
     reads = reads;
-    within = h.within;
-    with_diagrams = h.with_diagrams;
-    used_all = h.reached.used_all;
-    cause = h.reached.cause;
-    opened = h.reached.opened;
-    with_limit = h.reached.with_limit;
-    few = h.reached.few;
+    files = h.files;
+    agree = h.agree;
+    opens = h.opened.opens;
+    limit = h.opened.with_limit;
   }
-  words_stop (status.BigCase entries) h = record { answer = words_answered _ h }
-  words_stop (status.TooLong file) h = record {
-    invocation = record { task = task; node_limit = limit };
-    reads = reads;
-    file = h.file;
-    is_file = h.is_file;
-    earlier = h.earlier;
-    place = h.place;
-    taken = h.taken;
-    longer = h.longer;
+
+  pub words_leave : (s : meaning.Status) → IfOpen new (OpenedForTask task before limit new)
+      → LeftAs (open_after (Some (record { task = task; node_limit = limit })) s) new → Leaves building_cases words before new s
+  words_leave s opened left = record {
+    as_told = λ b e. left b (sym (ap (λ i. open_after i s) reads) ∙ e);
+    opened = λ there. words_opened (opened there);
   }
-  words_stop (status.ReadFault file) h = record {
-    invocation = record { task = task; node_limit = limit };
-    reads = reads;
-    file = h.file;
-    is_file = h.is_file;
-    earlier = h.earlier;
-    cause = h.cause;
-  }
-  words_stop status.WriteFault h = absurd h
-  words_stop status.NoMemory h = tt
-  words_stop status.Unsupported h = record { answer = words_answered _ h }
 
-  pub words_opened : IsOpenedWith limit new → OpenedWith building_cases words new
-  words_opened h there = (record { task = task; node_limit = limit }, reads, h there)
+  module _ (opened : IfOpen new (OpenedForTask task before limit new)) where
+    pub words_stop : (s : Status) → StopsTask task before after old new s → Stops words before after old new s
+    words_stop status.Done h = absurd h
+    words_stop status.BadWords h = absurd h
+    words_stop (status.BadBundle fault) h = record { answer = words_answered _ h }
+    words_stop (status.BadConfig rule at) h = record { answer = words_answered _ h }
+    words_stop status.NotValid h = record { answer = words_answered _ h }
+    words_stop (status.BadCase fault) h = record { answer = words_answered _ h }
+    words_stop (status.NodeLimit used) h = record {
+      opened = words_opened (opened h.is_open);
+      is_open = h.is_open;
+      used_all = h.used_all;
+      cause = h.cause;
+      few = h.few;
+    }
+    words_stop (status.BigCase entries) h = record { answer = words_answered _ h }
+    words_stop (status.TooLong file) h = record {
+      invocation = record { task = task; node_limit = limit };
+      reads = reads;
+      file = h.file;
+      is_file = h.is_file;
+      earlier = h.earlier;
+      place = h.place;
+      taken = h.taken;
+      longer = h.longer;
+    }
+    words_stop (status.ReadFault file) h = record {
+      invocation = record { task = task; node_limit = limit };
+      reads = reads;
+      file = h.file;
+      is_file = h.is_file;
+      earlier = h.earlier;
+      cause = h.cause;
+    }
+    words_stop status.WriteFault h = absurd h
+    words_stop status.NoMemory h = tt
+    words_stop status.Unsupported h = record { answer = words_answered _ h }
 
-  pub words_left_shut : IsShutBut task new → LeftShut building_cases words new
-  words_left_shut h i same plain =
-      let is : i ≡ record { task = task; node_limit = limit } = unwrap_same (sym same ∙ reads) in
-      h (subst (λ (x : Invocation). uses_diagrams x.task ≡ false) is plain)
-    where
-      unwrap_same : {A : Type 0} {x y : A} → Some x ≡ Some y → x ≡ y
-      unwrap_same e = cc
-
--- diagrams that are shut are so under words that have no reading
-pub unread_opened : (words : List (List ℕ)) (new : Diagrams) → new.is_open ≡ false → OpenedWith building_cases words new
-unread_opened words new shut there = absurd (let n : false ≡ true = sym shut ∙ there in cc)
+-- shut diagrams are left so under words that have no reading
+pub unread_leave : (words : List (List ℕ)) (before : Outside) (new : Diagrams) (s : meaning.Status) → building_cases.reads words ≡ None → new.is_open ≡ false
+    → Leaves building_cases words before new s
+unread_leave words before new s none shut = record {
+  as_told = λ b e. shut ∙ is_false b (sym (ap (λ i. open_after i s) none) ∙ e);
+  opened = λ there. absurd (let n : false ≡ true = sym shut ∙ there in cc);
+}
+  where
+    is_false : (b : Bool) → Some false ≡ Some b → false ≡ b
+    is_false b e = cc
 
 -- ---- the outside around the shelf
 
@@ -127,12 +137,21 @@ module _ (words : List (List ℕ)) (before after : Outside) (old new : Diagrams)
     is = a.is;
   }
 
-  few_on_shelf : (task : Task) → BuildsFewFeatures building_cases task before
-      → BuildsFewFeatures building_cases task (shelf_of before.holds before.faults before.next before.given)
-  few_on_shelf task x = record { name = x.name; builds = x.builds; bytes = x.bytes; told = x.told; bundle = x.bundle }
+  opened_outside : OpenedFor building_cases words (shelf_of before.holds before.faults before.next before.given) new → OpenedFor building_cases words before new
+  opened_outside h = record {
+    invocation = h.invocation;
+    reads = h.reads;
+    files = h.files;
+    agree = agree_with (shelf_of before.holds before.faults before.next before.given) before refl (files_of h.invocation.task) h.files h.agree;
+    opens = h.opens;
+    limit = h.limit;
+  }
+
+  leaves_outside : (s : meaning.Status) → Leaves building_cases words (shelf_of before.holds before.faults before.next before.given) new s → Leaves building_cases words before new s
+  leaves_outside s h = record { as_told = h.as_told; opened = λ there. opened_outside (h.opened there) }
 
   cause_outside : (s : Status) → Stops words (shelf_of before.holds before.faults before.next before.given) (shelf_of after.holds after.faults after.next after.given) old new s
-      → Cause building_cases words before after (LimitAt building_cases words before old new) (status_line (status_view s)) (status_view s)
+      → Cause building_cases words before after (LimitMet building_cases words before old new) (status_line (status_view s)) (status_view s)
   cause_outside status.Done h = absurd h
   cause_outside status.BadWords h = h
   cause_outside (status.BadBundle fault) h = record { answer = answered_outside _ h.answer }
@@ -140,15 +159,11 @@ module _ (words : List (List ℕ)) (before after : Outside) (old new : Diagrams)
   cause_outside status.NotValid h = record { answer = answered_outside _ h.answer }
   cause_outside (status.BadCase fault) h = record { answer = answered_outside _ h.answer }
   cause_outside (status.NodeLimit used) h = record {
-    invocation = h.invocation;
-    reads = h.reads;
-    within = h.within;
-    with_diagrams = h.with_diagrams;
+    opened = opened_outside h.opened;
+    is_open = h.is_open;
     used_all = h.used_all;
     cause = h.cause;
-    opened = h.opened;
-    with_limit = h.with_limit;
-    few = λ x. h.few (few_on_shelf h.invocation.task x);
+    few = h.few;
   }
   cause_outside (status.BigCase entries) h = record { answer = answered_outside _ h.answer }
   cause_outside (status.TooLong file) h = record {
@@ -206,7 +221,7 @@ module _ (words : List (List ℕ)) (before after : Outside) (old new : Diagrams)
 
   pub stopped_promise : (s : Status) → Stops words (shelf_of before.holds before.faults before.next before.given) (shelf_of after.holds after.faults after.next after.given) old new s
       → after.out ≡ before.out → Says before.err after.err before.err_faults after.err_faults (status_line (status_view s))
-      → Promise building_cases words before after (LimitAt building_cases words before old new) (status_view s)
+      → Promise building_cases words before after (LimitMet building_cases words before old new) (status_view s)
   stopped_promise s h e said = record {
     lines = status_line (status_view s);
     cause = cause_outside s h;
@@ -218,7 +233,7 @@ module _ (words : List (List ℕ)) (before after : Outside) (old new : Diagrams)
   -- the status, or want of memory in its place
   pub refused_promise : (s r : Status) → Stops words (shelf_of before.holds before.faults before.next before.given) (shelf_of after.holds after.faults after.next after.given) old new s
       → (r ≡ s) ⊎ (r ≡ status.NoMemory) → after.out ≡ before.out → Says before.err after.err before.err_faults after.err_faults (status_line (status_view r))
-      → Promise building_cases words before after (LimitAt building_cases words before old new) (status_view r)
+      → Promise building_cases words before after (LimitMet building_cases words before old new) (status_view r)
   refused_promise s r h (inl same) e said =
       stopped_promise r (subst (λ x. Stops words (shelf_of before.holds before.faults before.next before.given) (shelf_of after.holds after.faults after.next after.given) old new x) (sym same) h) e said
   refused_promise s r h (inr none) e said =
@@ -227,7 +242,7 @@ module _ (words : List (List ℕ)) (before after : Outside) (old new : Diagrams)
   pub printed_promise : (s : Status) (bytes : List ℕ) → Answered building_cases words (shelf_of before.holds before.faults before.next before.given) (Prints bytes)
       → Printed s before.out after.out before.out_faults after.out_faults bytes
       → Says before.err after.err before.err_faults after.err_faults (status_line (status_view s))
-      → Promise building_cases words before after (LimitAt building_cases words before old new) (status_view s)
+      → Promise building_cases words before after (LimitMet building_cases words before old new) (status_view s)
   printed_promise status.Done bytes a p said = record {
     lines = status_line meaning.Done;
     cause = record { bytes = bytes; answer = answered_outside (Prints bytes) a; printed = p };
@@ -253,3 +268,40 @@ module _ (words : List (List ℕ)) (before after : Outside) (old new : Diagrams)
   printed_promise (status.ReadFault file) bytes a p said = absurd p
   printed_promise status.NoMemory bytes a p said = absurd p
   printed_promise status.Unsupported bytes a p said = absurd p
+
+  -- want of memory leaves no more to tell
+  without_memory : (o : Option Invocation) (s : meaning.Status) (b : Bool) → open_after o meaning.NoMemory ≡ Some b → open_after o s ≡ Some b
+  without_memory None s b e = e
+  without_memory (Some i) s b e = go (uses_diagrams i.task) e
+    where
+      go : (uses : Bool) → (if uses then open_under meaning.NoMemory else Some false) ≡ Some b → (if uses then open_under s else Some false) ≡ Some b
+      go true e = absurd (let n : None ≡ Some b = e in cc)
+      go false e = e
+
+  pub refused_leave : (s r : Status) → Leaves building_cases words (shelf_of before.holds before.faults before.next before.given) new (status_view s)
+      → (r ≡ s) ⊎ (r ≡ status.NoMemory) → Leaves building_cases words before new (status_view r)
+  refused_leave s r h (inl same) = leaves_outside (status_view r) (subst (λ x. Leaves building_cases words (shelf_of before.holds before.faults before.next before.given) new (status_view x)) (sym same) h)
+  refused_leave s r h (inr none) =
+      subst (λ x. Leaves building_cases words before new (status_view x)) (sym none)
+      (record { as_told = λ b e. h.as_told b (without_memory (building_cases.reads words) (status_view s) b e); opened = λ there. opened_outside (h.opened there) })
+
+  pub printed_leave : (s : Status) (bytes : List ℕ) → Leaves building_cases words (shelf_of before.holds before.faults before.next before.given) new meaning.Done
+      → Printed s before.out after.out before.out_faults after.out_faults bytes → Leaves building_cases words before new (status_view s)
+  printed_leave status.Done bytes h p = leaves_outside meaning.Done h
+  printed_leave status.WriteFault bytes h p =
+      leaves_outside meaning.WriteFault (record { as_told = λ b e. h.as_told b (not_written (building_cases.reads words) b e); opened = h.opened })
+    where
+      not_written : (o : Option Invocation) (b : Bool) → open_after o meaning.WriteFault ≡ Some b → open_after o meaning.Done ≡ Some b
+      not_written None b e = e
+      not_written (Some i) b e = e
+  printed_leave status.BadWords bytes h p = absurd p
+  printed_leave (status.BadBundle fault) bytes h p = absurd p
+  printed_leave (status.BadConfig rule at) bytes h p = absurd p
+  printed_leave status.NotValid bytes h p = absurd p
+  printed_leave (status.BadCase fault) bytes h p = absurd p
+  printed_leave (status.NodeLimit used) bytes h p = absurd p
+  printed_leave (status.BigCase entries) bytes h p = absurd p
+  printed_leave (status.TooLong file) bytes h p = absurd p
+  printed_leave (status.ReadFault file) bytes h p = absurd p
+  printed_leave status.NoMemory bytes h p = absurd p
+  printed_leave status.Unsupported bytes h p = absurd p

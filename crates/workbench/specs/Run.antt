@@ -5,12 +5,12 @@ use Rattle.meaning.specs.Counts.{Rose, RoseBy, appended}
 use Rattle.meaning.specs.Statuses.{status_line}
 use Rattle.meaning.specs.Words.{Task, File, files_of}
 use Rattle.meaning.specs.Answers.{Answer, IsAnswer, refusal}
-use Rattle.meaning.specs.TopCall.{Outside, Diagrams, IfTold, AgreeWith, WithinBefore, Cause}
+use Rattle.meaning.specs.TopCall.{Outside, Diagrams, IfTold, AgreeWith, WithinBefore, LimitMet, Cause}
 use Rattle.workbench.specs.declared.status.Status.{Status}
 use Rattle.workbench.specs.declared.status.Status.TheVariants as status
 use Rattle.workbench.specs.StatusView.{status_view}
 use Rattle.workbench.specs.BuildingStage.{building_cases}
-use Rattle.workbench.specs.Limits.{IsAtLimit, IsTaskAtLimit, LimitAt}
+use Rattle.workbench.specs.Limits.{MeetsLimit}
 
 abbrev pub outside_of : (holds : List ℕ → Option (List ℕ)) (faults : List ℕ → ℕ) (next : ℕ) (given : List ℕ → ℕ)
     (out : Option (List ℕ)) (out_faults : ℕ) (err : Option (List ℕ)) (err_faults : ℕ) → Outside
@@ -88,10 +88,10 @@ Refuses Is (status.NodeLimit used) = ⊥
 Refuses Is status.WriteFault = ⊥
 Refuses Is s = Is (refusal (status_view s))
 
--- why there is no built case: the limit was reached, which over few features is less than always enough, or else this is the answer
-abbrev pub StopsBuilding : (limit : ℕ) → (Few : Type 0) → (old new : Diagrams) → (Answer → Type 0) → Status → Type 0
-StopsBuilding limit Few old new Is (status.NodeLimit used) = IsAtLimit limit Few old new used
-StopsBuilding limit Few old new Is s = Refuses Is s
+-- why there is no built case: the limit was met, or else this is the answer
+abbrev pub StopsBuilding : (old new : Diagrams) → (Answer → Type 0) → Status → Type 0
+StopsBuilding old new Is (status.NodeLimit used) = MeetsLimit old new used
+StopsBuilding old new Is s = Refuses Is s
 
 -- the answer of a task to the bytes of its files
 pub record AnswersTask (task : Task) (before : Outside) (answer : Answer) : Type 0 where
@@ -100,18 +100,18 @@ pub record AnswersTask (task : Task) (before : Outside) (answer : Answer) : Type
   pub is : IsAnswer building_cases task files answer
 
 -- why a task has no answer that is printed
-abbrev pub StopsTask : Task → (limit : ℕ) → (before after : Outside) → (old new : Diagrams) → Status → Type 0
-StopsTask task limit before after old new (status.ReadFault k) = NotReadOf (files_of task) before after k
-StopsTask task limit before after old new (status.TooLong k) = IsTooLongOf (files_of task) before after k
-StopsTask task limit before after old new (status.NodeLimit used) = IsTaskAtLimit building_cases task limit before old new used
-StopsTask task limit before after old new s = Refuses (AnswersTask task before) s
+abbrev pub StopsTask : Task → (before after : Outside) → (old new : Diagrams) → Status → Type 0
+StopsTask task before after old new (status.ReadFault k) = NotReadOf (files_of task) before after k
+StopsTask task before after old new (status.TooLong k) = IsTooLongOf (files_of task) before after k
+StopsTask task before after old new (status.NodeLimit used) = MeetsLimit old new used
+StopsTask task before after old new s = Refuses (AnswersTask task before) s
 
 -- a status that comes before anything is written, with its cause
 abbrev pub Stops : (words : List (List ℕ)) → (before after : Outside) → (old new : Diagrams) → Status → Type 0
 Stops words before after old new status.Done = ⊥
 Stops words before after old new status.WriteFault = ⊥
 Stops words before after old new s =
-    Cause building_cases words before after (LimitAt building_cases words before old new) (status_line (status_view s)) (status_view s)
+    Cause building_cases words before after (LimitMet building_cases words before old new) (status_line (status_view s)) (status_view s)
 
 -- the bytes were written, or a front of them where the output failed
 abbrev pub Printed : Status → (old new : Option (List ℕ)) → (faults faults_new : ℕ) → List ℕ → Type 0

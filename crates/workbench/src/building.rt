@@ -1,12 +1,14 @@
 //! From the bytes of a bundle to the bytes of its case, over diagrams that are opened for it.
 
-ghost use Rattle.std.specs.Prelude.{◌≡◌, ◌≤◌, ◌∷◌, [], IfOk, IfErr, OnOk, length};
+ghost use Rattle.std.specs.Prelude.{◌≡◌, ◌∷◌, [], true, IfOk, IfErr, OnOk, length};
 ghost use Rattle.meaning.specs.Features.{feature_names};
 ghost use Rattle.meaning.specs.Words.{Build};
-ghost use Rattle.meaning.specs.Answers.{Prints, IsAnswer, IsBuildAnswer, ShowsCase, bundle_in};
+ghost use Rattle.meaning.specs.Answers.{Prints, IsAnswer, IsBuildAnswer, ShowsCase};
+ghost use Rattle.meaning.specs.TopCall.{open_under};
+ghost use Rattle.workbench.specs.StatusView.{status_view};
 ghost use Rattle.workbench.specs.BuildingStage.{building_cases};
 ghost use Rattle.workbench.specs.BundleView.{bundle_view, IsReadBundle};
-ghost use Rattle.workbench.specs.Limits.{IsLimit, IsOpenedWith, HasFewFeatures, diagrams_of};
+ghost use Rattle.workbench.specs.Limits.{IsLimit, IfOpen, LeftAs, OpenedOver, OpenedForFiles, diagrams_of};
 ghost use Rattle.workbench.specs.Products.{HasProducts, SameLimits, StopsOver};
 ghost use Rattle.workbench.specs.Run.{StopsBuilding};
 
@@ -31,9 +33,10 @@ pub fn build(
     requires limit { IsLimit limit }
     requires shut { d.old.region.limit ≡ 0 }
     ensures built { IfOk result (λ v. IsAnswer building_cases (Build name.now) (bytes.now ∷ []) (Prints v.items)) }
-    ensures stopped { IfErr result (StopsBuilding limit (HasFewFeatures (bundle_in building_cases name.now bytes.now)) (diagrams_of d.old) (diagrams_of d.new)
-        (IsAnswer building_cases (Build name.now) (bytes.now ∷ []))) }
-    ensures opened { IsOpenedWith limit (diagrams_of d.new) }
+    ensures stopped { IfErr result (StopsBuilding (diagrams_of d.old) (diagrams_of d.new) (IsAnswer building_cases (Build name.now) (bytes.now ∷ []))) }
+    ensures opened { IfOpen (diagrams_of d.new) (OpenedForFiles (Build name.now) (bytes.now ∷ []) limit (diagrams_of d.new)) }
+    ensures open { OnOk result ((diagrams_of d.new).is_open ≡ true) }
+    ensures left { IfErr result (λ s. LeftAs (open_under (status_view s)) (diagrams_of d.new)) }
 {
     let bundle = read_bundle(alloc, name, bytes)?;
     build_bundle(alloc, &bundle, limit, d)
@@ -50,9 +53,10 @@ fn build_bundle(
     requires limit { IsLimit limit }
     requires shut { d.old.region.limit ≡ 0 }
     ensures built { IfOk result (λ v. IsBuildAnswer building_cases (bundle_view bundle.now) ShowsCase (Prints v.items)) }
-    ensures stopped { IfErr result (StopsBuilding limit (length (feature_names (bundle_view bundle.now).line) ≤ 4) (diagrams_of d.old) (diagrams_of d.new)
-        (IsBuildAnswer building_cases (bundle_view bundle.now) ShowsCase)) }
-    ensures opened { IsOpenedWith limit (diagrams_of d.new) }
+    ensures stopped { IfErr result (StopsBuilding (diagrams_of d.old) (diagrams_of d.new) (IsBuildAnswer building_cases (bundle_view bundle.now) ShowsCase)) }
+    ensures opened { IfOpen (diagrams_of d.new) (OpenedOver limit (length (feature_names (bundle_view bundle.now).line)) (diagrams_of d.new)) }
+    ensures open { OnOk result ((diagrams_of d.new).is_open ≡ true) }
+    ensures left { IfErr result (λ s. LeftAs (open_under (status_view s)) (diagrams_of d.new)) }
 {
     d.start(alloc, limit, bundle.line.count())?;
     let answer = built_over(alloc, bundle, d);
@@ -103,7 +107,7 @@ fn case_bytes(alloc: Global, bundle: &Bundle, d: &mut Diagrams) -> Result<Vec<u8
         bundle.title.text(),
         bundle.line.features(),
         &bundle.model,
-        bundle.templates.list(),
+        &bundle.templates,
         d,
     )?;
     // The nodes are a region, so that a table has fewer rows than there are numbers.

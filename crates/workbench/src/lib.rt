@@ -4,8 +4,10 @@
 //! words, every shelf, every pair of sinks and shut diagrams. `build` writes the case of a bundle whose templates have no solution, with its
 //! conditions made in diagrams, `derive` the text of a case file, whoever wrote it, at a configuration, and `product` the text of the
 //! templates on the configuration's own model. Each refusal has its cause, and the first one is told: of the words, of reading the files in
-//! their order, of the first file, of the configuration, of the world that it names, of the node limit, and of the size of the case. `LimitAt`
-//! of `specs/Limits.antt` is the cause of a reached node limit.
+//! their order, of the first file, of the configuration, of the world that it names, of the node limit, and of the size of the case. `LimitMet`
+//! of `meaning` is the cause of a reached node limit.
+//! By `Leaves` the diagrams are at the end open exactly where `open_after` says so: `build` opens them once its bundle has kept its rules, with
+//! the limit of the words and the number of features of the line, and want of memory alone may come before or after.
 //! A case that `build` wrote derives, for every configuration file, to the same bytes or refusal as the product of its bundle:
 //! `derive_agrees_with_product` of `proofs/DerivedProducts.antt`.
 //!

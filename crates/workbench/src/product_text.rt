@@ -67,7 +67,7 @@ fn product_text(alloc: Global, bundle: &Bundle, world: &[bool]) -> Result<Vec<u8
         bundle.title.text(),
         bundle.line.features(),
         &bundle.model,
-        bundle.templates.list(),
+        &bundle.templates,
         &mut one,
     )?;
     text_of(alloc, &case, world)

@@ -1,12 +1,15 @@
 //! The answer of a task: its files are read in their order, and then what they say is answered.
 
-ghost use Rattle.std.specs.Prelude.{◌≡◌, ℕ, IfOk, IfErr};
+ghost use Rattle.std.specs.Prelude.{◌≡◌, true, IfOk, IfErr, OnOk, Some};
 ghost use Rattle.meaning.specs.Counts.{NoFewer};
 ghost use Rattle.meaning.specs.Answers.{Prints};
+ghost use Rattle.meaning.specs.Statuses.{Done};
 ghost use Rattle.meaning.specs.TopCall as top_call;
+ghost use Rattle.meaning.specs.TopCall.{open_after, open_under};
 ghost use Rattle.meaning.specs.Words.{Build, Derive, Product};
-ghost use Rattle.workbench.specs.Limits.{IsLimit, IsOpenedWith, IsShutBut, diagrams_of};
-ghost use Rattle.workbench.specs.WordsView.{task_view};
+ghost use Rattle.workbench.specs.Limits.{IsLimit, IfOpen, LeftAs, OpenedForTask, diagrams_of};
+ghost use Rattle.workbench.specs.StatusView.{status_view};
+ghost use Rattle.workbench.specs.WordsView.{task_view, invocation_view};
 ghost use Rattle.workbench.specs.Run.{shelf_of, AnswersTask, StopsTask};
 
 use crate::building::build;
@@ -30,12 +33,14 @@ pub fn answer_task<F: Shelf>(
     requires shut { d.old.region.limit ≡ 0 }
     ensures answered { IfOk result (λ v. AnswersTask (task_view invocation.now.task)
         (shelf_of (F.holds shelf.old) (F.faults shelf.old) (F.next shelf.old) (F.given shelf.old)) (Prints v.items)) }
-    ensures stopped { IfErr result (StopsTask (task_view invocation.now.task) invocation.now.node_limit
+    ensures stopped { IfErr result (StopsTask (task_view invocation.now.task)
         (shelf_of (F.holds shelf.old) (F.faults shelf.old) (F.next shelf.old) (F.given shelf.old))
         (shelf_of (F.holds shelf.new) (F.faults shelf.new) (F.next shelf.new) (F.given shelf.new))
         (diagrams_of d.old) (diagrams_of d.new)) }
-    ensures opened { IsOpenedWith invocation.now.node_limit (diagrams_of d.new) }
-    ensures left_shut { IsShutBut (task_view invocation.now.task) (diagrams_of d.new) }
+    ensures opened { IfOpen (diagrams_of d.new) (OpenedForTask (task_view invocation.now.task)
+        (shelf_of (F.holds shelf.old) (F.faults shelf.old) (F.next shelf.old) (F.given shelf.old)) invocation.now.node_limit (diagrams_of d.new)) }
+    ensures left_done { OnOk result (LeftAs (open_after (Some (invocation_view invocation.now)) Done) (diagrams_of d.new)) }
+    ensures left { IfErr result (λ s. LeftAs (open_after (Some (invocation_view invocation.now)) (status_view s)) (diagrams_of d.new)) }
     ensures no_fewer_faults { NoFewer (F.faults shelf.old) (F.faults shelf.new) }
     ensures no_less_given { NoFewer (F.given shelf.old) (F.given shelf.new) }
     ensures same_files { F.holds shelf.new ≡ F.holds shelf.old }
@@ -65,11 +70,14 @@ fn answer_build<F: Shelf>(
     requires shut { d.old.region.limit ≡ 0 }
     ensures answered { IfOk result (λ v. AnswersTask (Build bundle.now)
         (shelf_of (F.holds shelf.old) (F.faults shelf.old) (F.next shelf.old) (F.given shelf.old)) (Prints v.items)) }
-    ensures stopped { IfErr result (StopsTask (Build bundle.now) limit
+    ensures stopped { IfErr result (StopsTask (Build bundle.now)
         (shelf_of (F.holds shelf.old) (F.faults shelf.old) (F.next shelf.old) (F.given shelf.old))
         (shelf_of (F.holds shelf.new) (F.faults shelf.new) (F.next shelf.new) (F.given shelf.new))
         (diagrams_of d.old) (diagrams_of d.new)) }
-    ensures opened { IsOpenedWith limit (diagrams_of d.new) }
+    ensures opened { IfOpen (diagrams_of d.new) (OpenedForTask (Build bundle.now)
+        (shelf_of (F.holds shelf.old) (F.faults shelf.old) (F.next shelf.old) (F.given shelf.old)) limit (diagrams_of d.new)) }
+    ensures open { OnOk result ((diagrams_of d.new).is_open ≡ true) }
+    ensures left { IfErr result (λ s. LeftAs (open_under (status_view s)) (diagrams_of d.new)) }
     ensures no_fewer_faults { NoFewer (F.faults shelf.old) (F.faults shelf.new) }
     ensures no_less_given { NoFewer (F.given shelf.old) (F.given shelf.new) }
     ensures same_files { F.holds shelf.new ≡ F.holds shelf.old }
@@ -87,7 +95,7 @@ fn answer_derive<F: Shelf>(
 ) -> Result<Vec<u8>, Status>
     ensures answered { IfOk result (λ v. AnswersTask (Derive case.now configuration.now)
         (shelf_of (F.holds shelf.old) (F.faults shelf.old) (F.next shelf.old) (F.given shelf.old)) (Prints v.items)) }
-    ensures stopped { IfErr result (λ s. (limit : ℕ) (old new : top_call.Diagrams) → StopsTask (Derive case.now configuration.now) limit
+    ensures stopped { IfErr result (λ s. (old new : top_call.Diagrams) → StopsTask (Derive case.now configuration.now)
         (shelf_of (F.holds shelf.old) (F.faults shelf.old) (F.next shelf.old) (F.given shelf.old))
         (shelf_of (F.holds shelf.new) (F.faults shelf.new) (F.next shelf.new) (F.given shelf.new)) old new s) }
     ensures no_fewer_faults { NoFewer (F.faults shelf.old) (F.faults shelf.new) }
@@ -107,7 +115,7 @@ fn answer_product<F: Shelf>(
 ) -> Result<Vec<u8>, Status>
     ensures answered { IfOk result (λ v. AnswersTask (Product bundle.now configuration.now)
         (shelf_of (F.holds shelf.old) (F.faults shelf.old) (F.next shelf.old) (F.given shelf.old)) (Prints v.items)) }
-    ensures stopped { IfErr result (λ s. (limit : ℕ) (old new : top_call.Diagrams) → StopsTask (Product bundle.now configuration.now) limit
+    ensures stopped { IfErr result (λ s. (old new : top_call.Diagrams) → StopsTask (Product bundle.now configuration.now)
         (shelf_of (F.holds shelf.old) (F.faults shelf.old) (F.next shelf.old) (F.given shelf.old))
         (shelf_of (F.holds shelf.new) (F.faults shelf.new) (F.next shelf.new) (F.given shelf.new)) old new s) }
     ensures no_fewer_faults { NoFewer (F.faults shelf.old) (F.faults shelf.new) }

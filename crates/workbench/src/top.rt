@@ -1,13 +1,13 @@
 //! The one call that reads the words and the files, and answers.
 
-ghost use Rattle.std.specs.Prelude.{◌≡◌, ◌⊎◌, ◌≤◌, IfOk, IfErr, map, string_bytes, length, Some, None};
+ghost use Rattle.std.specs.Prelude.{◌≡◌, ◌⊎◌, ◌≤◌, IfOk, IfErr, map, string_bytes, length, Some, None, OnOk};
 ghost use Rattle.meaning.specs.Counts.{NoFewer};
 ghost use Rattle.meaning.specs.Answers.{Prints};
-ghost use Rattle.meaning.specs.Statuses.{status_line};
-ghost use Rattle.meaning.specs.TopCall.{Answered, Says, Promise, LeftShut, Kept};
+ghost use Rattle.meaning.specs.Statuses.{Done, status_line};
+ghost use Rattle.meaning.specs.TopCall.{Answered, Says, LimitMet, Leaves, Promise, Kept};
 ghost use Rattle.workbench.specs.StatusView.{status_view};
 ghost use Rattle.workbench.specs.BuildingStage.{building_cases};
-ghost use Rattle.workbench.specs.Limits.{LimitAt, OpenedWith, diagrams_of};
+ghost use Rattle.workbench.specs.Limits.{diagrams_of};
 ghost use Rattle.workbench.specs.Run.{outside_of, shelf_of, Stops, Printed};
 
 use crate::status::Status;
@@ -20,7 +20,7 @@ use std::alloc::Global;
 /// Reads the words and the files that they name, answers on `out`, and says on `err` why there is no answer.
 ///
 /// `words` has the program's name first. The whole answer is made before the first put on `out`. `build` opens `d`, once its bundle has kept its
-/// rules, with the limit of the words and the line's number of features; `derive` and `product` leave it shut.
+/// rules, with the limit of the words and the line's number of features, and leaves it open; `derive` and `product` leave it shut.
 pub fn run<F: Shelf, O: Sink, E: Sink>(
     alloc: Global,
     words: &[String],
@@ -34,12 +34,13 @@ pub fn run<F: Shelf, O: Sink, E: Sink>(
     ensures promise { Promise building_cases (map string_bytes words.now)
         (outside_of (F.holds shelf.old) (F.faults shelf.old) (F.next shelf.old) (F.given shelf.old) (O.got out.old) (O.faults out.old) (E.got err.old) (E.faults err.old))
         (outside_of (F.holds shelf.new) (F.faults shelf.new) (F.next shelf.new) (F.given shelf.new) (O.got out.new) (O.faults out.new) (E.got err.new) (E.faults err.new))
-        (LimitAt building_cases (map string_bytes words.now)
+        (LimitMet building_cases (map string_bytes words.now)
         (outside_of (F.holds shelf.old) (F.faults shelf.old) (F.next shelf.old) (F.given shelf.old) (O.got out.old) (O.faults out.old) (E.got err.old) (E.faults err.old))
         (diagrams_of d.old) (diagrams_of d.new))
         (status_view result) }
-    ensures opened { OpenedWith building_cases (map string_bytes words.now) (diagrams_of d.new) }
-    ensures shut { LeftShut building_cases (map string_bytes words.now) (diagrams_of d.new) }
+    ensures leaves { Leaves building_cases (map string_bytes words.now)
+        (outside_of (F.holds shelf.old) (F.faults shelf.old) (F.next shelf.old) (F.given shelf.old) (O.got out.old) (O.faults out.old) (E.got err.old) (E.faults err.old))
+        (diagrams_of d.new) (status_view result) }
     ensures kept { Kept
         (outside_of (F.holds shelf.old) (F.faults shelf.old) (F.next shelf.old) (F.given shelf.old) (O.got out.old) (O.faults out.old) (E.got err.old) (E.faults err.old))
         (outside_of (F.holds shelf.new) (F.faults shelf.new) (F.next shelf.new) (F.given shelf.new) (O.got out.new) (O.faults out.new) (E.got err.new) (E.faults err.new)) }
@@ -64,8 +65,10 @@ fn answer<F: Shelf>(
         (shelf_of (F.holds shelf.old) (F.faults shelf.old) (F.next shelf.old) (F.given shelf.old))
         (shelf_of (F.holds shelf.new) (F.faults shelf.new) (F.next shelf.new) (F.given shelf.new))
         (diagrams_of d.old) (diagrams_of d.new)) }
-    ensures opened { OpenedWith building_cases (map string_bytes words.now) (diagrams_of d.new) }
-    ensures shut { LeftShut building_cases (map string_bytes words.now) (diagrams_of d.new) }
+    ensures leaves_done { OnOk result (Leaves building_cases (map string_bytes words.now)
+        (shelf_of (F.holds shelf.old) (F.faults shelf.old) (F.next shelf.old) (F.given shelf.old)) (diagrams_of d.new) Done) }
+    ensures leaves { IfErr result (λ s. Leaves building_cases (map string_bytes words.now)
+        (shelf_of (F.holds shelf.old) (F.faults shelf.old) (F.next shelf.old) (F.given shelf.old)) (diagrams_of d.new) (status_view s)) }
     ensures no_fewer_faults { NoFewer (F.faults shelf.old) (F.faults shelf.new) }
     ensures no_less_given { NoFewer (F.given shelf.old) (F.given shelf.new) }
     ensures same_files { F.holds shelf.new ≡ F.holds shelf.old }

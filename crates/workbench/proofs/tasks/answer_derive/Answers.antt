@@ -1,4 +1,4 @@
-use Rattle.std.proofs.Common.{ℕ, [], ◌∷◌}
+use Rattle.std.proofs.Common.{[], ◌∷◌}
 use Rattle.std.proofs.lemmas.Result.{IfOk-weaker, IfErr-weaker}
 use Rattle.meaning.specs.Words.{Derive, files_of}
 use Rattle.meaning.specs.Answers.{Prints, IsAnswer}
@@ -18,7 +18,7 @@ returns-clause-answered g c =
     let chosen = c.deref-2.result.now in
     let agree = two_files before (files_of task) c.in_ok-bytes.bytes.items c.in_ok-bytes.chosen.items bytes chosen c.deref.ensures.value c.deref-2.ensures.value c.in_ok-bytes.ensures.read in
     IfOk-weaker c.derive.result (λ v. AnswersDerive bytes c.args.configuration.now chosen (Prints v.items)) (λ v. AnswersTask task before (Prints v.items))
-    (λ v h. task_answered task 0 before before no_diagrams no_diagrams (bytes ∷ chosen ∷ []) agree (Prints v.items) (h c.args.case.now)) c.derive.ensures.derived
+    (λ v h. task_answered task before before no_diagrams no_diagrams (bytes ∷ chosen ∷ []) agree (Prints v.items) (h c.args.case.now)) c.derive.ensures.derived
 
 pub returns-clause-stopped : goal.returns-clause-stopped
 returns-clause-stopped g c =
@@ -28,5 +28,5 @@ returns-clause-stopped g c =
     let bytes = c.deref.result.now in
     let chosen = c.deref-2.result.now in
     let agree = two_files before (files_of task) c.in_ok-bytes.bytes.items c.in_ok-bytes.chosen.items bytes chosen c.deref.ensures.value c.deref-2.ensures.value c.in_ok-bytes.ensures.read in
-    IfErr-weaker c.derive.result (Refuses (AnswersDerive bytes c.args.configuration.now chosen)) (λ s. (limit : ℕ) (old new : Diagrams) → StopsTask task limit before after old new s)
-    (λ s h limit old new. task_refused task limit before after old new (bytes ∷ chosen ∷ []) agree s (refuses_by (AnswersDerive bytes c.args.configuration.now chosen) (IsAnswer building_cases task (bytes ∷ chosen ∷ [])) (λ a i. i c.args.case.now) s h)) c.derive.ensures.refused
+    IfErr-weaker c.derive.result (Refuses (AnswersDerive bytes c.args.configuration.now chosen)) (λ s. (old new : Diagrams) → StopsTask task before after old new s)
+    (λ s h old new. task_refused task before after old new (bytes ∷ chosen ∷ []) agree s (refuses_by (AnswersDerive bytes c.args.configuration.now chosen) (IsAnswer building_cases task (bytes ∷ chosen ∷ [])) (λ a i. i c.args.case.now) s h)) c.derive.ensures.refused
