@@ -63,6 +63,7 @@ pub mod KeptRules
 pub mod NewPairs
 pub mod BundleNames
 pub mod SameBuilds
+pub mod QueryRuns
 pub mod QueryTokens
 pub mod QueryPasses
 pub mod PathPhrases
