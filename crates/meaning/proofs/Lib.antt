@@ -61,8 +61,10 @@ pub mod TwinDocuments
 pub mod OneDocument
 pub mod KeptRules
 pub mod NewPairs
+pub mod BegunQueries
 pub mod BundleNames
 pub mod SameBuilds
+pub mod QueryPlaces
 pub mod QueryRuns
 pub mod QueryTokens
 pub mod QueryPasses

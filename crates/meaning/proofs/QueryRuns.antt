@@ -55,7 +55,7 @@ Runs n (t ∷ ts) = (goes_on n t ≡ true) × Runs (step n t) ts
 
 -- ---- a query's tokens do
 
-one_deeper : (k : ℕ) → k + 1 ≡ suc k
+pub one_deeper : (k : ℕ) → k + 1 ≡ suc k
 one_deeper k = omega arith
 
 between : (k : ℕ) (ts us rest : List Token) (s : Token) → Runs (a_step k) (ts ++ s ∷ (us ++ rest)) → Runs (a_step k) ((ts ++ s ∷ us) ++ rest)
