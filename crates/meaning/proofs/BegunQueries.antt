@@ -1,6 +1,6 @@
 -- Tokens that go on to an end are a query, over a model and a scope that have each of their words.
-use Rattle.std.proofs.Common.{◌≡◌, ◌∙◌, sym, ap, subst, refl, ℕ, zero, suc, ◌+◌, List, [], ◌∷◌, ◌++◌, map, Bool, true, false, ◌||◌, append_assoc, Option, Some, None, arith}
-use Rattle.std.specs.Prelude.{codes, bytes_eq, if◌then◌else◌, option_map, option_and_then, is_some}
+use Rattle.std.proofs.Common.{◌≡◌, ◌∙◌, sym, ap, subst, refl, ℕ, zero, suc, ◌+◌, List, [], ◌∷◌, ◌++◌, map, Bool, true, false, ◌||◌, append_assoc, Some, None}
+use Rattle.std.specs.Prelude.{codes, bytes_eq, if◌then◌else◌, option_map, option_and_then}
 use Rattle.std.specs.List.{slice_get}
 use Rattle.std.proofs.lemmas.Bool.{true≢false}
 use Rattle.std.proofs.lemmas.List.{append-nil}
@@ -9,7 +9,7 @@ use Rattle.meaning.specs.Texts.{is_name, place_of}
 use Rattle.meaning.specs.BundlePlaces.{is_among}
 use Rattle.meaning.specs.Models.{Model, TypeDef, LinkKind}
 use Rattle.meaning.specs.Queries.{Path, Along, Against, Chain, Constraint, Walks, Attribute, Query}
-use Rattle.meaning.specs.QueryTexts.{Token, word, quoted, colon, comma, open_bracket, close_bracket, open_paren, close_paren, dot, equal_sign, exclamation, bar, slash, plus, caret, Scope, attribute_number, kind_names}
+use Rattle.meaning.specs.QueryTexts.{Token, word, quoted, colon, comma, open_bracket, close_bracket, open_paren, close_paren, dot, equal_sign, exclamation, bar, slash, plus, caret, Scope, kind_names}
 use Rattle.meaning.specs.QueryFaults.{Next, a_query, a_new_variable, the_colon, the_type, after_type, a_constraint, a_negated_walk, after_variable, an_attribute, a_comparison, a_quoted_text, a_step, a_step_back, after_step, the_other_end, after_constraint, goes_on, may_end, is_with}
 use Rattle.meaning.specs.QueryGrammar.{IsNameOf, IsAttributeOf, variable_names, type_names, IsPath, IsStep, of_atom, chain, forwards, backwards, grouped, IsConstraint, a_walk, no_walk, equals, differs, IsConstraints, of_constraint, and_constraints, unconditional, with_constraints, of_type, IsVariables, of_variable, and_variables, no_variables, some_variables, IsQuery, query}
 use Rattle.meaning.proofs.QueryPasses.{at_start}

@@ -6,7 +6,7 @@ use Rattle.std.proofs.lemmas.List.{append-nil}
 use Rattle.meaning.specs.Models.{Model}
 use Rattle.meaning.specs.BundlePlaces.{or_else}
 use Rattle.meaning.specs.ExpressionFaults.{TextFault, TooMany, Syntax, UnknownName, Repeated}
-use Rattle.meaning.specs.QueryTexts.{Token, word, quoted, colon, open_bracket, close_bracket, close_paren, equal_sign, strange, Scope, cut_at_quotes}
+use Rattle.meaning.specs.QueryTexts.{Token, word, quoted, colon, open_bracket, close_bracket, close_paren, equal_sign, strange, cut_at_quotes}
 use Rattle.meaning.specs.QueryFaults.{Next, a_query, a_new_variable, the_colon, the_type, after_type, a_constraint, a_negated_walk, after_variable, an_attribute, a_comparison, a_quoted_text, a_step, a_step_back, after_step, the_other_end, after_constraint, Progress, goes_on, may_end, is_known, is_stray, new_variable, is_variable_too_many, begins_constraint_too_many, stands_in_scope, progress_after, fault_from, placed_tokens, query_fault}
 use Rattle.meaning.specs.FaultPlaces.{BeginsQuery, BeginsNoQuery, IsNoQuery, bare_tokens, QueryStopsAt, at_query_token, at_query_stray, at_query_end, SyntaxStandsInQuery}
 use Rattle.meaning.proofs.QueryPasses.{at_start}

@@ -1,5 +1,5 @@
 -- The tokens of a query go on from the first to the last, whatever its names are.
-use Rattle.std.proofs.Common.{◌≡◌, ◌∙◌, sym, ap, subst, refl, ℕ, zero, suc, ◌+◌, List, [], ◌∷◌, ◌++◌, Bool, true, false, ◌||◌, append_assoc, arith}
+use Rattle.std.proofs.Common.{◌≡◌, sym, ap, subst, refl, ℕ, zero, suc, ◌+◌, List, [], ◌∷◌, ◌++◌, Bool, true, false, append_assoc, arith}
 use Rattle.std.specs.Prelude.{codes, bytes_eq, if◌then◌else◌}
 use Rattle.std.proofs.lemmas.Bool.{true≢false, or_right}
 use Rattle.std.proofs.lemmas.List.{append-nil}
@@ -8,7 +8,7 @@ use Rattle.meaning.specs.Models.{Model}
 use Rattle.meaning.specs.Queries.{Path, Constraint, Query}
 use Rattle.meaning.specs.QueryTexts.{Token, word, quoted, colon, comma, open_bracket, close_bracket, open_paren, close_paren, dot, equal_sign, exclamation, bar, slash, plus, caret, Scope}
 use Rattle.meaning.specs.QueryFaults.{Next, a_query, a_new_variable, the_colon, the_type, after_type, a_constraint, a_negated_walk, after_variable, an_attribute, a_comparison, a_quoted_text, a_step, a_step_back, after_step, the_other_end, after_constraint, Progress, goes_on, may_end, is_with, progress_after, number_of}
-use Rattle.meaning.specs.QueryGrammar.{IsNameOf, IsAttributeOf, IsPath, of_sequence, one_of, IsSequence, of_step, after, IsStep, of_atom, chain, IsAtom, forwards, backwards, grouped, IsConstraint, a_walk, no_walk, equals, differs, IsConstraints, of_constraint, and_constraints, IsConditions, unconditional, with_constraints, IsVariable, of_type, IsVariables, of_variable, and_variables, IsNew, no_variables, some_variables, IsQuery, query}
+use Rattle.meaning.specs.QueryGrammar.{IsPath, of_sequence, one_of, IsSequence, of_step, after, IsStep, of_atom, chain, IsAtom, forwards, backwards, grouped, IsConstraint, a_walk, no_walk, equals, differs, IsConstraints, of_constraint, and_constraints, IsConditions, unconditional, with_constraints, of_type, IsVariables, of_variable, and_variables, no_variables, some_variables, IsQuery, query}
 use Rattle.meaning.proofs.ConstraintPasses.{not_not, not_with}
 
 -- ---- what comes next without its names and numbers
