@@ -25,10 +25,10 @@ word_type all w = record { name = w; parent = None; attributes = all; has_system
 abbrev word_kind : List ℕ → LinkKind
 word_kind w = record { name = w; source = 0; target = 0 }
 
-abbrev pub scope_of : List (List ℕ) → Scope
+abbrev scope_of : List (List ℕ) → Scope
 scope_of ws = map (λ w. (w, 0)) ws
 
-abbrev pub model_of : List (List ℕ) → Model
+abbrev model_of : List (List ℕ) → Model
 model_of ws = record {
   types = map (word_type (codes "x" ∷ ws)) (codes "x" ∷ ws);
   kinds = map word_kind (codes "x" ∷ ws);
@@ -74,10 +74,10 @@ module _ (ws : List (List ℕ)) where
   abbrev scope : Scope
   scope = scope_of (codes "x" ∷ ws)
 
-  abbrev pub Known : List ℕ → Type 0
+  abbrev Known : List ℕ → Type 0
   Known w = is_among (codes "x" ∷ ws) w ≡ true
 
-  abbrev pub KnownToken : Token → Type 0
+  abbrev KnownToken : Token → Type 0
   KnownToken (word w) = Known w
   KnownToken t = Unit {0}
 
@@ -110,8 +110,8 @@ module _ (ws : List (List ℕ)) where
 
   -- ---- what is read so far
 
-  abbrev pub Query_ : List Token → Type 0
-  Query_ ts = (q : Scope × Query) × IsQuery m scope ts q
+  abbrev HasQuery : List Token → Type 0
+  HasQuery ts = (q : Scope × Query) × IsQuery m scope ts q
 
   abbrev HasVariables : List Token → Type 0
   HasVariables ts = (new : Scope) × IsVariables m ts new
@@ -122,7 +122,7 @@ module _ (ws : List (List ℕ)) where
 
   -- with constraints behind them the tokens are a query
   abbrev ConstraintsOn : Scope → List Token → Type 0
-  ConstraintsOn new ds = (us : List Token) (cs : List Constraint) → IsConstraints m (scope ++ new) us cs → Query_ (ds ++ us)
+  ConstraintsOn new ds = (us : List Token) (cs : List Constraint) → IsConstraints m (scope ++ new) us cs → HasQuery (ds ++ us)
 
   -- a constraint is begun behind them
   record Within (P : Scope → List Token → Type 0) (ds : List Token) : Type 0 where
@@ -135,7 +135,7 @@ module _ (ws : List (List ℕ)) where
 
   -- a constraint has ended
   record Done (ds : List Token) : Type 0 where
-    whole : Query_ ds
+    whole : HasQuery ds
     new : Scope
     on : ConstraintsOn new (ds ++ comma ∷ [])
 
@@ -158,10 +158,10 @@ module _ (ws : List (List ℕ)) where
 
   ended : (ds before part : List Token) (new : Scope) → ds ≡ before ++ part → ConstraintsOn new before → HasConstraint new part → Done ds
   ended ds before part new both on h = record {
-    whole = subst Query_ (sym both) (on part (h.0 ∷ []) (of_constraint h.1));
+    whole = subst HasQuery (sym both) (on part (h.0 ∷ []) (of_constraint h.1));
     new = new;
     on = λ us cs g.
-        subst Query_ (sym (append_assoc ds (comma ∷ []) us ∙ (ap (λ z. z ++ comma ∷ us) both ∙ append_assoc before part (comma ∷ us))))
+        subst HasQuery (sym (append_assoc ds (comma ∷ []) us ∙ (ap (λ z. z ++ comma ∷ us) both ∙ append_assoc before part (comma ∷ us))))
         (on (part ++ comma ∷ us) (h.0 ∷ cs) (and_constraints h.1 g));
   }
 
@@ -359,13 +359,13 @@ module _ (ws : List (List ℕ)) where
 
   with_first : (ds : List Token) (w : List ℕ) → ds ≡ [] → is_with w ≡ true → ConstraintsOn [] (ds ++ word w ∷ [])
   with_first ds w e is us cs g =
-      subst (λ z. Query_ ((z ++ word w ∷ []) ++ us)) (sym e)
-      (subst (λ v. Query_ (word v ∷ us)) (with_word w is) (([], record { variables = []; constraints = cs }), query no_variables (with_constraints g)))
+      subst (λ z. HasQuery ((z ++ word w ∷ []) ++ us)) (sym e)
+      (subst (λ v. HasQuery (word v ∷ us)) (with_word w is) (([], record { variables = []; constraints = cs }), query no_variables (with_constraints g)))
 
   with_behind : (ds : List Token) (w : List ℕ) (h : HasVariables ds) → is_with w ≡ true → ConstraintsOn h.0 (ds ++ word w ∷ [])
   with_behind ds w h is us cs g =
-      subst Query_ (sym (append_assoc ds (word w ∷ []) us))
-      (subst (λ v. Query_ (ds ++ word v ∷ us)) (with_word w is)
+      subst HasQuery (sym (append_assoc ds (word w ∷ []) us))
+      (subst (λ v. HasQuery (ds ++ word v ∷ us)) (with_word w is)
       ((h.0, record { variables = map (λ v. v.1) h.0; constraints = cs }), query (some_variables h.1) (with_constraints g)))
 
   query_begins : (ds : List Token) (w : List ℕ) (b : Bool) → is_with w ≡ b → b || is_name w ≡ true → ds ≡ []
@@ -451,25 +451,25 @@ module _ (ws : List (List ℕ)) where
   advance after_constraint comma ds goes known i = begins_constraints (ds ++ comma ∷ []) i.new i.on
   advance after_constraint t ds goes known i = absurd (true≢false (sym goes))
 
-  at_end : (n : Next) (ds : List Token) → may_end n ≡ true → Begun n ds → Query_ (ds ++ [])
-  at_end a_query ds e i = subst (λ z. Query_ (z ++ [])) (sym i) (([], record { variables = []; constraints = [] }), query no_variables unconditional)
+  at_end : (n : Next) (ds : List Token) → may_end n ≡ true → Begun n ds → HasQuery (ds ++ [])
+  at_end a_query ds e i = subst (λ z. HasQuery (z ++ [])) (sym i) (([], record { variables = []; constraints = [] }), query no_variables unconditional)
   at_end after_type ds e i =
       ((i.0.0, record { variables = map (λ v. v.1) i.0.0; constraints = [] }), query (some_variables i.0.1) unconditional)
-  at_end after_constraint ds e i = subst Query_ (sym (append-nil ds)) i.whole
+  at_end after_constraint ds e i = subst HasQuery (sym (append-nil ds)) i.whole
   at_end n ds e i = absurd (true≢false (sym e))
 
   -- each word of the tokens is known
-  abbrev pub AllKnown : List Token → Type 0
+  abbrev AllKnown : List Token → Type 0
   AllKnown [] = Unit {0}
   AllKnown (t ∷ ts) = KnownToken t × AllKnown ts
 
-  run_is_query : (ts : List Token) (n : Next) (ds : List Token) → Runs n ts → AllKnown ts → Begun n ds → Query_ (ds ++ ts)
+  run_is_query : (ts : List Token) (n : Next) (ds : List Token) → Runs n ts → AllKnown ts → Begun n ds → HasQuery (ds ++ ts)
   run_is_query [] n ds r known i = at_end n ds r i
   run_is_query (t ∷ ts) n ds r known i =
-      subst Query_ (append_assoc ds (t ∷ []) ts) (run_is_query ts (step n t) (ds ++ t ∷ []) r.1 known.1 (advance n t ds r.0 known.0 i))
+      subst HasQuery (append_assoc ds (t ∷ []) ts) (run_is_query ts (step n t) (ds ++ t ∷ []) r.1 known.1 (advance n t ds r.0 known.0 i))
 
   -- tokens that go on from the first to an end are a query
-  passing_query : (ts : List Token) → Runs a_query ts → AllKnown ts → Query_ ts
+  passing_query : (ts : List Token) → Runs a_query ts → AllKnown ts → HasQuery ts
   passing_query ts r known = run_is_query ts a_query [] r known refl
 
 -- ---- all words of the tokens
