@@ -48,6 +48,7 @@ pub mod LowerNodes
 pub mod KeysDiffer
 pub mod ReadCases
 pub mod LikeDocuments
+pub mod OneStop
 pub mod OnceLists
 pub mod SeenLists
 pub mod InstanceNodes

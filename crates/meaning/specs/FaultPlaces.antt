@@ -101,3 +101,14 @@ pub data QueryStopsAt (end : ℕ) (all : List (ℕ × QueryToken)) (at : ℕ) : 
 abbrev pub SyntaxStandsInQuery : Type 0
 SyntaxStandsInQuery = (m : Model) (scope : Scope) (s : List ℕ) (at : ℕ) → query_fault m scope s ≡ Some (Syntax at)
     → QueryStopsAt (length s) (query_tokens 0 (cut_at_quotes s)) at
+
+-- ---- one place
+
+-- an expression's text has one such byte at most
+abbrev pub OneStopOfExpression : Type 0
+OneStopOfExpression = (names : List (List ℕ)) (end : ℕ) (all : List (ℕ × Option Token)) (a b : ℕ)
+    → ExpressionStopsAt names end all a → ExpressionStopsAt names end all b → a ≡ b
+
+-- and so has a query's
+abbrev pub OneStopOfQuery : Type 0
+OneStopOfQuery = (end : ℕ) (all : List (ℕ × QueryToken)) (a b : ℕ) → QueryStopsAt end all a → QueryStopsAt end all b → a ≡ b
