@@ -31,21 +31,21 @@ pub record Small (bs : List Broken) : Type 0 where
   pub is : list_all (λ b. nat_lt b.0 30) bs ≡ true
 
 both : {bs cs : List Broken} → Small bs → Small cs → Small (bs ++ cs)
-both {bs} {cs} h i = record {
+both {bs = bs} {cs = cs} h i = record {
   is = list_all-append (λ b. nat_lt b.0 30) bs cs ∙ both_true (list_all (λ b. nat_lt b.0 30) bs) (list_all (λ b. nat_lt b.0 30) cs) h.is i.is;
 }
 
 need : {rule : ℕ} {holds : Bool} → nat_lt rule 30 ≡ true → Small (requires rule holds)
-need {rule} {true} small = record { is = refl }
-need {rule} {false} small = record { is = both_true (nat_lt rule 30) true small refl }
+need {rule = rule} {holds = true} small = record { is = refl }
+need {rule = rule} {holds = false} small = record { is = both_true (nat_lt rule 30) true small refl }
 
 place : {rule : ℕ} {byte : Option ℕ} → nat_lt rule 30 ≡ true → Small (broken_at rule byte)
-place {rule} {None} small = record { is = refl }
-place {rule} {Some byte} small = record { is = both_true (nat_lt rule 30) true small refl }
+place {rule = rule} {byte = None} small = record { is = refl }
+place {rule = rule} {byte = Some byte} small = record { is = both_true (nat_lt rule 30) true small refl }
 
 formed : {form others : List Broken} → Small form → Small others → Small (where_formed form others)
-formed {[]} {others} h i = i
-formed {b ∷ bs} {others} h i = h
+formed {form = []} {others = others} h i = i
+formed {form = b ∷ bs} {others = others} h i = h
 
 expression : {names : List (List ℕ)} {k : List ℕ} {d : Document} → Small (expression_rules names k d)
 expression = both (place refl) (place refl)

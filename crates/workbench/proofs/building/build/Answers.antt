@@ -51,4 +51,4 @@ pub returns-clause-opened : goal.returns-clause-opened
 returns-clause-opened c =
     let b = c.deref.result.now in
     let good = subst (IsGoodBundle (bundle_in building_cases c.args.name.now c.args.bytes.now)) (sym c.deref.ensures) c.in_ok-bundle.ensures.good in
-    λ open. opened_for_bundle c.args.name.now c.args.bytes.now b c.args.limit (diagrams_of c.build_bundle.new.d) good (c.build_bundle.ensures.opened open)
+    λ is_open. opened_for_bundle c.args.name.now c.args.bytes.now b c.args.limit (diagrams_of c.build_bundle.new.d) good (c.build_bundle.ensures.opened is_open)

@@ -38,7 +38,7 @@ returns-clause-stopped c =
     c.built_over-answer.ensures.stopped
 
 pub returns-clause-opened : goal.returns-clause-opened
-returns-clause-opened c = λ open. record {
+returns-clause-opened c = λ is_open. record {
   with_limit = with_limit (goal.at.returns-clause-opened c).After-built_over-answer;
   over =
       c.built_over-answer.ensures.kept.vars ∙ ap (λ (x : State). x.region.vars) c.in_ok-start.ensures.ok ∙ c.count.ensures.count
