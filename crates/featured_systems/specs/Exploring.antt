@@ -1,5 +1,5 @@
 -- What an exploration tells of a featured transition system.
-use Rattle.std.specs.Prelude.{◌≡◌, ℕ, ◌<◌, ◌⊎◌, ⊤, ⊥, List, [], ◌∷◌, map, length, Bool, true, filter}
+use Rattle.std.specs.Prelude.{◌≡◌, ℕ, ◌<◌, ◌⊎◌, ⊤, List, [], ◌∷◌, map, length, Bool, true, filter}
 use Rattle.std.specs.List.{All}
 use Rattle.meaning.specs.Models.{Model, System}
 use Rattle.meaning.specs.Layers.{steps_there, reached_there, parents_there, layers_there}

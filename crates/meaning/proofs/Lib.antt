@@ -49,6 +49,7 @@ pub mod LowerNodes
 pub mod KeysDiffer
 pub mod ReadCases
 pub mod LikeDocuments
+pub mod OneStop
 pub mod OnceLists
 pub mod SeenLists
 pub mod InstanceNodes
@@ -62,8 +63,11 @@ pub mod TwinDocuments
 pub mod OneDocument
 pub mod KeptRules
 pub mod NewPairs
+pub mod BegunQueries
 pub mod BundleNames
 pub mod SameBuilds
+pub mod QueryPlaces
+pub mod QueryRuns
 pub mod QueryTokens
 pub mod QueryPasses
 pub mod PathPhrases

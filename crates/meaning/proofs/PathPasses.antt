@@ -90,21 +90,21 @@ module _ (m : Model) (p : Progress) where
   -- ---- tokens that go on are a path
 
   -- the tokens have a tree of the kind
-  abbrev Has : (List Token → Path → Type 0) → List Token → Type 0
+  abbrev pub Has : (List Token → Path → Type 0) → List Token → Type 0
   Has K ts = (a : Path) × K ts a
 
   -- tokens that a step makes a path: sequences with a bar behind each, then steps with a slash behind each
-  record Before (ds : List Token) : Type 0 where
-    sequences : List Token
-    steps : List Token
-    both : ds ≡ sequences ++ steps
-    path_on : (us : List Token) → Has (IsSequence (kind_names m)) us → Has (IsPath (kind_names m)) (sequences ++ us)
-    sequence_on : (us : List Token) → Has (IsStep (kind_names m)) us → Has (IsSequence (kind_names m)) (steps ++ us)
+  pub record Before (ds : List Token) : Type 0 where
+    pub sequences : List Token
+    pub steps : List Token
+    pub both : ds ≡ sequences ++ steps
+    pub path_on : (us : List Token) → Has (IsSequence (kind_names m)) us → Has (IsPath (kind_names m)) (sequences ++ us)
+    pub sequence_on : (us : List Token) → Has (IsStep (kind_names m)) us → Has (IsSequence (kind_names m)) (steps ++ us)
 
-  before_all : Before []
+  pub before_all : Before []
   before_all = record { sequences = []; steps = []; both = refl; path_on = λ us h. (h.0, of_sequence h.1); sequence_on = λ us h. (h.0, of_step h.1) }
 
-  step_on : (ds us : List Token) → Before ds → Has (IsStep (kind_names m)) us → Has (IsPath (kind_names m)) (ds ++ us)
+  pub step_on : (ds us : List Token) → Before ds → Has (IsStep (kind_names m)) us → Has (IsPath (kind_names m)) (ds ++ us)
   step_on ds us b h =
       subst (Has (IsPath (kind_names m))) (sym (ap (λ vs. vs ++ us) b.both ∙ append_assoc b.sequences b.steps us)) (b.path_on (b.steps ++ us) (b.sequence_on us h))
 
@@ -112,7 +112,7 @@ module _ (m : Model) (p : Progress) where
   moved_in vs us ws s =
       append_assoc vs us (s ∷ ws) ∙ (ap (λ z. vs ++ z) (sym (append_assoc us (s ∷ []) ws)) ∙ sym (append_assoc vs (us ++ s ∷ []) ws))
 
-  slash_on : (ds us : List Token) → Before ds → Has (IsStep (kind_names m)) us → Before (ds ++ (us ++ slash ∷ []))
+  pub slash_on : (ds us : List Token) → Before ds → Has (IsStep (kind_names m)) us → Before (ds ++ (us ++ slash ∷ []))
   slash_on ds us b h = record {
     sequences = b.sequences;
     steps = b.steps ++ (us ++ slash ∷ []);
@@ -123,7 +123,7 @@ module _ (m : Model) (p : Progress) where
         subst (Has (IsSequence (kind_names m))) (moved_in b.steps us ws slash) (Then r.0 g.0, after r.1 g.1);
   }
 
-  bar_on : (ds us : List Token) → Before ds → Has (IsStep (kind_names m)) us → Before (ds ++ (us ++ bar ∷ []))
+  pub bar_on : (ds us : List Token) → Before ds → Has (IsStep (kind_names m)) us → Before (ds ++ (us ++ bar ∷ []))
   bar_on ds us b h = record {
     sequences = ds ++ (us ++ bar ∷ []);
     steps = [];

@@ -1,0 +1,2 @@
+pub mod PlainChecks
+pub mod FirstViolations
