@@ -93,7 +93,7 @@ built_uncounted b case i = record { product = i.product; few = λ h. absurd (let
 
 -- ---- a case that was built
 
-is_built : (b : Bundle) (a : Answer) (case : List ℕ) → IsBuildAnswer building_cases b ShowsCase a → a ≡ Prints case → IsBuilt building_cases b case
+pub is_built : (b : Bundle) (a : Answer) (case : List ℕ) → IsBuildAnswer building_cases b ShowsCase a → a ≡ Prints case → IsBuilt building_cases b case
 is_built b a case (no_world n) e = absurd (let x = e in cc)
 is_built b a case (too_many_entries c v m) e = absurd (let x = e in cc)
 is_built b a case (too_many_bytes bytes c v f i m) e = absurd (let x = e in cc)

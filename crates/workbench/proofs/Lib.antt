@@ -14,4 +14,5 @@ pub mod WorldReadings
 pub mod TextAnswers
 pub mod TaskAnswers
 pub mod DerivedProducts
+pub mod SameCases
 pub mod TopCauses

@@ -9,7 +9,8 @@
 //! By `Leaves` the diagrams are at the end open exactly where `open_after` says so: `build` opens them once its bundle has kept its rules, with
 //! the limit of the words and the number of features of the line, and want of memory alone may come before or after.
 //! A case that `build` wrote derives, for every configuration file, to the same bytes or refusal as the product of its bundle:
-//! `derive_agrees_with_product` of `proofs/DerivedProducts.antt`.
+//! `derive_agrees_with_product` of `proofs/DerivedProducts.antt`. Two builds of one bundle file print the same bytes, whatever node limit each had:
+//! `builds_print_the_same` of `proofs/SameCases.antt`.
 //!
 //! It is made of small steps, each with its contract: the words, the files, the document of a bundle with its line, model and templates, the
 //! case over diagrams and its bytes, the case over one world, the world of a configuration, the case at that world and its text, the output.
