@@ -192,8 +192,8 @@ from_nearer s y d proper h =
         → IsFirstNumber (λ n. holds_at (ends_after s n) y) 0 (length s.states) (suc d) → distance s t.1.source ≡ Some d
     go t there target e at most is =
         let other : (e < d) → ⊥ = λ less.
-            let ends = one_step_more s e t proper there ((distance_is s t.1.source e at).passes) in
-            false≢true (sym (is.first (suc e) (omega arith) (omega (arith, less))) ∙ subst (EndsAfter s (suc e)) target ends) in
+        let ends = one_step_more s e t proper there ((distance_is s t.1.source e at).passes) in
+        false≢true (sym (is.first (suc e) (omega arith) (omega (arith, less))) ∙ subst (EndsAfter s (suc e)) target ends) in
         let same : e ≡ d = grind (arith, most, other) in
         at ∙ ap Some same
 

@@ -1,2 +1,0 @@
-pub mod PlainChecks
-pub mod FirstViolations
