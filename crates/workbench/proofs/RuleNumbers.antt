@@ -8,7 +8,7 @@ use Rattle.std.proofs.lemmas.List.Folds.{list_all-append}
 use Rattle.meaning.specs.Texts.{flat, numbered, first_of_list}
 use Rattle.meaning.specs.Documents.{Document, Form, document_of, list_at}
 use Rattle.meaning.specs.Models.{Model, model_of}
-use Rattle.meaning.specs.BundlePlaces.{Part, Bundle, Owners, BundleFault, Broken, requires, broken_at, where_formed, faults_at, faults_of_items, faults_of_items_in, is_table_value}
+use Rattle.meaning.specs.BundlePlaces.{Part, Bundle, Types, Kinds, Labels, Elements, Links, Systems, States, Transitions, Owners, Templates, Params, Nodes, BundleFault, Broken, requires, broken_at, where_formed, faults_at, faults_of_items, faults_of_items_in, is_table_value}
 use Rattle.meaning.specs.LineRules.{feature_names_in, features_in, feature_rules, feature_faults, line_in, line_rule_rules, line_rule_faults, line_faults, expression_rules}
 use Rattle.meaning.specs.ModelRules as m
 use Rattle.meaning.specs.ModelRules.{ModelContext}
@@ -30,129 +30,137 @@ both_true a b e f = ap (λ x. x && b) e ∙ f
 pub record Small (bs : List Broken) : Type 0 where
   pub is : list_all (λ b. nat_lt b.0 30) bs ≡ true
 
-both : {bs cs : List Broken} → Small bs → Small cs → Small (bs ++ cs)
-both {bs = bs} {cs = cs} h i = record {
+both : (bs cs : List Broken) → Small bs → Small cs → Small (bs ++ cs)
+both bs cs h i = record {
   is = list_all-append (λ b. nat_lt b.0 30) bs cs ∙ both_true (list_all (λ b. nat_lt b.0 30) bs) (list_all (λ b. nat_lt b.0 30) cs) h.is i.is;
 }
 
-need : {rule : ℕ} {holds : Bool} → nat_lt rule 30 ≡ true → Small (requires rule holds)
-need {rule = rule} {holds = true} small = record { is = refl }
-need {rule = rule} {holds = false} small = record { is = both_true (nat_lt rule 30) true small refl }
+need : (rule : ℕ) (holds : Bool) → nat_lt rule 30 ≡ true → Small (requires rule holds)
+need rule true small = record { is = refl }
+need rule false small = record { is = both_true (nat_lt rule 30) true small refl }
 
-place : {rule : ℕ} {byte : Option ℕ} → nat_lt rule 30 ≡ true → Small (broken_at rule byte)
-place {rule = rule} {byte = None} small = record { is = refl }
-place {rule = rule} {byte = Some byte} small = record { is = both_true (nat_lt rule 30) true small refl }
+place : (rule : ℕ) (byte : Option ℕ) → nat_lt rule 30 ≡ true → Small (broken_at rule byte)
+place rule None small = record { is = refl }
+place rule (Some byte) small = record { is = both_true (nat_lt rule 30) true small refl }
 
-formed : {form others : List Broken} → Small form → Small others → Small (where_formed form others)
-formed {form = []} {others = others} h i = i
-formed {form = b ∷ bs} {others = others} h i = h
+formed : (form others : List Broken) → Small form → Small others → Small (where_formed form others)
+formed [] others h i = i
+formed (b ∷ bs) others h i = h
 
-expression : {names : List (List ℕ)} {k : List ℕ} {d : Document} → Small (expression_rules names k d)
-expression = both (place refl) (place refl)
+expression : (names : List (List ℕ)) (k : List ℕ) (d : Document) → Small (expression_rules names k d)
+expression names k d = both _ _ (place 11 _ refl) (place 12 _ refl)
 
 -- ---- the items of each part
 
 feature : (names : List (List ℕ)) (x : ℕ × Document) → Small (feature_rules names x)
 unfolding feature_rules
-feature names x = formed (both (both (both (need refl) (need refl)) (need refl)) (need refl)) (both (need refl) (need refl))
+feature names x = formed _ _ (both _ _ (both _ _ (both _ _ (need _ _ refl) (need _ _ refl)) (need _ _ refl)) (need _ _ refl)) (both _ _ (need _ _ refl) (need _ _ refl))
 
 line_rule : (names : List (List ℕ)) (x : ℕ × Document) → Small (line_rule_rules names x)
 unfolding line_rule_rules
-line_rule names x = formed (both (both (need refl) (need refl)) (need refl)) (both (need refl) expression)
+line_rule names x = formed _ _ (both _ _ (both _ _ (need _ _ refl) (need _ _ refl)) (need _ _ refl)) (both _ _ (need _ _ refl) (expression names (codes "holds") x.1))
 
 type : (c : ModelContext) (x : ℕ × Document) → Small (m.type_rules c x)
 unfolding m.type_rules
-type c x = formed (both (both (both (need refl) (need refl)) (need refl)) (need refl)) (need refl)
+type c x = formed _ _ (both _ _ (both _ _ (both _ _ (need _ _ refl) (need _ _ refl)) (need _ _ refl)) (need _ _ refl)) (need _ _ refl)
 
 kind : (c : ModelContext) (x : ℕ × Document) → Small (m.kind_rules c x)
 unfolding m.kind_rules
-kind c x = formed (both (both (both (need refl) (need refl)) (need refl)) (need refl)) (need refl)
+kind c x = formed _ _ (both _ _ (both _ _ (both _ _ (need _ _ refl) (need _ _ refl)) (need _ _ refl)) (need _ _ refl)) (need _ _ refl)
 
 label : (c : ModelContext) (x : ℕ × Document) → Small (m.label_rules c x)
 unfolding m.label_rules
-label c x = both (both (both (need refl) (need refl)) (need refl)) (need refl)
+label c x = both _ _ (both _ _ (both _ _ (need _ _ refl) (need _ _ refl)) (need _ _ refl)) (need _ _ refl)
 
 element : (c : ModelContext) (x : ℕ × Document) → Small (m.element_rules c x)
 unfolding m.element_rules
 element c x =
-    formed (both (both (both (both (need refl) (need refl)) (need refl)) (need refl)) (need refl)) (both (both expression (need refl)) (need refl))
+    formed _ _ (both _ _ (both _ _ (both _ _ (both _ _ (need _ _ refl) (need _ _ refl)) (need _ _ refl)) (need _ _ refl)) (need _ _ refl)) (both _ _ (both _ _ (expression c.features (codes "when") x.1) (need _ _ refl)) (need _ _ refl))
 
 link : (c : ModelContext) (x : ℕ × Document) → Small (m.link_rules c x)
 unfolding m.link_rules
-link c x = formed (both (both (need refl) (need refl)) (need refl)) (both (both expression (need refl)) (need refl))
+link c x = formed _ _ (both _ _ (both _ _ (need _ _ refl) (need _ _ refl)) (need _ _ refl)) (both _ _ (both _ _ (expression c.features (codes "when") x.1) (need _ _ refl)) (need _ _ refl))
 
 system : (c : ModelContext) (x : ℕ × Document) → Small (m.system_rules c x)
 unfolding m.system_rules
-system c x = formed (both (need refl) (need refl)) (both (need refl) (need refl))
+system c x = formed _ _ (both _ _ (need _ _ refl) (need _ _ refl)) (both _ _ (need _ _ refl) (need _ _ refl))
 
 state : (c : ModelContext) (s x : ℕ × Document) → Small (m.state_rules c s x)
 unfolding m.state_rules
-state c s x = formed (both (both (both (need refl) (need refl)) (need refl)) (need refl)) (need refl)
+state c s x = formed _ _ (both _ _ (both _ _ (both _ _ (need _ _ refl) (need _ _ refl)) (need _ _ refl)) (need _ _ refl)) (need _ _ refl)
 
 transition : (c : ModelContext) (s x : ℕ × Document) → Small (m.transition_rules c s x)
 unfolding m.transition_rules
-transition c s x = formed (both (both (both (need refl) (need refl)) (need refl)) (need refl)) (both expression (need refl))
+transition c s x = formed _ _ (both _ _ (both _ _ (both _ _ (need _ _ refl) (need _ _ refl)) (need _ _ refl)) (need _ _ refl)) (both _ _ (expression c.features (codes "when") x.1) (need _ _ refl))
 
 template : (ts : List Document) (x : ℕ × Document) → Small (t.template_rules ts x)
 unfolding t.template_rules
-template ts x = formed (both (both (both (need refl) (need refl)) (need refl)) (need refl)) (both (need refl) (need refl))
+template ts x = formed _ _ (both _ _ (both _ _ (both _ _ (need _ _ refl) (need _ _ refl)) (need _ _ refl)) (need _ _ refl)) (both _ _ (need _ _ refl) (need _ _ refl))
 
 parameter : (model : Model) (d : Document) (x : ℕ × Document) → Small (t.parameter_rules model d x)
 unfolding t.parameter_rules
-parameter model d x = formed (both (both (both (need refl) (need refl)) (need refl)) (need refl)) (need refl)
+parameter model d x = formed _ _ (both _ _ (both _ _ (both _ _ (need _ _ refl) (need _ _ refl)) (need _ _ refl)) (need _ _ refl)) (need _ _ refl)
 
 node : (c : NodeContext) (x : ℕ × Document) → Small (t.node_rules c x)
 unfolding t.node_rules
 node c x =
-    formed (both (both (both (both (need refl) (need refl)) (need refl)) (need refl)) (need refl))
-    (both (both (both (both (both (both expression (need refl)) (need refl)) (place refl)) (place refl)) (need refl)) (need refl))
+    formed (t.node_form c x) _ (both _ _ (both _ _ (both _ _ (both _ _ (need _ _ refl) (need _ _ refl)) (need _ _ refl)) (need _ _ refl)) (need _ _ refl))
+    (both _ _ (both _ _ (both _ _ (both _ _ (both _ _ (both _ _ (expression c.model.labels (codes "never") (t.check_in x.1)) (need _ _ refl)) (need _ _ refl)) (place 26 (t.place_if_any (t.first_query_fault c x)) refl)) (place 27 (t.hole_fault_of_node c x) refl)) (need _ _ refl)) (need _ _ refl))
 
 -- ---- faults
 
 pub record SmallFaults (fs : List BundleFault) : Type 0 where
   pub is : list_all (λ f. nat_lt f.rule 30) fs ≡ true
 
-all : {fs gs : List BundleFault} → SmallFaults fs → SmallFaults gs → SmallFaults (fs ++ gs)
-all {fs} {gs} h i = record {
+all : (fs gs : List BundleFault) → SmallFaults fs → SmallFaults gs → SmallFaults (fs ++ gs)
+all fs gs h i = record {
   is = list_all-append (λ f. nat_lt f.rule 30) fs gs ∙ both_true (list_all (λ f. nat_lt f.rule 30) fs) (list_all (λ f. nat_lt f.rule 30) gs) h.is i.is;
 }
 
-here : {part : Part} {item sub : ℕ} {bs : List Broken} → Small bs → SmallFaults (faults_at part item sub bs)
-here {part} {item} {sub} {bs} h = record { is = go bs ∙ h.is }
+here : (part : Part) (item sub : ℕ) (bs : List Broken) → Small bs → SmallFaults (faults_at part item sub bs)
+here part item sub bs h = record { is = go bs ∙ h.is }
   where
     go : (cs : List Broken) → list_all (λ f. nat_lt f.rule 30) (faults_at part item sub cs) ≡ list_all (λ b. nat_lt b.0 30) cs
     go [] = refl
     go (b ∷ cs) = ap (λ x. nat_lt b.0 30 && x) (go cs)
 
-each : {A : Type 0} {faults : A → List BundleFault} (xs : List A) → ((x : A) → SmallFaults (faults x)) → SmallFaults (flat faults xs)
-each [] h = record { is = refl }
-each (x ∷ xs) h = all (h x) (each xs h)
+each : {A : Type 0} (faults : A → List BundleFault) (xs : List A) → ((x : A) → SmallFaults (faults x)) → SmallFaults (flat faults xs)
+each faults [] h = record { is = refl }
+each faults (x ∷ xs) h = all (faults x) (flat faults xs) (h x) (each faults xs h)
 
-items : {part : Part} {rules : ℕ × Document → List Broken} {ds : List Document} → ((x : ℕ × Document) → Small (rules x)) → SmallFaults (faults_of_items part rules ds)
-items {part} {rules} {ds} h = each (numbered ds) (λ x. here (h x))
+items : (part : Part) (rules : ℕ × Document → List Broken) (ds : List Document) → ((x : ℕ × Document) → Small (rules x)) → SmallFaults (faults_of_items part rules ds)
+items part rules ds h = each (λ x. faults_at part x.0 0 (rules x)) (numbered ds) (λ x. here part x.0 0 (rules x) (h x))
 
-items_in : {part : Part} {item : ℕ} {rules : ℕ × Document → List Broken} {ds : List Document} → ((x : ℕ × Document) → Small (rules x))
+items_in : (part : Part) (item : ℕ) (rules : ℕ × Document → List Broken) (ds : List Document) → ((x : ℕ × Document) → Small (rules x))
     → SmallFaults (faults_of_items_in part item rules ds)
-items_in {part} {item} {rules} {ds} h = each (numbered ds) (λ x. here (h x))
+items_in part item rules ds h = each (λ x. faults_at part item x.0 (rules x)) (numbered ds) (λ x. here part item x.0 (rules x) (h x))
 
-listed : {c : ModelContext} {part : Part} {k : List ℕ} {rules : ℕ × Document → List Broken} → ((x : ℕ × Document) → Small (rules x))
+listed : (c : ModelContext) (part : Part) (k : List ℕ) (rules : ℕ × Document → List Broken) → ((x : ℕ × Document) → Small (rules x))
     → SmallFaults (m.faults_in_list c part k rules)
-listed h = all (here (need refl)) (items h)
+listed c part k rules h = all _ _ (here _ _ _ _ (need _ _ refl)) (items _ _ _ h)
 
-inside : {part : Part} {k : List ℕ} {rules : ℕ × Document → List Broken} {x : ℕ × Document} → ((y : ℕ × Document) → Small (rules y))
+inside : (part : Part) (k : List ℕ) (rules : ℕ × Document → List Broken) (x : ℕ × Document) → ((y : ℕ × Document) → Small (rules y))
     → SmallFaults (m.faults_in_item part k rules x)
-inside h = all (here (need refl)) (items_in h)
+inside part k rules x h = all _ _ (here _ _ _ _ (need _ _ refl)) (items_in _ _ _ _ h)
 
 line : (d : Document) → SmallFaults (line_faults d)
 unfolding line_faults
-line d = all (all (here (need refl)) (items (feature (feature_names_in d)))) (all (here (need refl)) (items (line_rule (feature_names_in d))))
+line d = all _ _ (all _ _ (here _ _ _ _ (need _ _ refl)) (items _ _ _ (feature (feature_names_in d)))) (all _ _ (here _ _ _ _ (need _ _ refl)) (items _ _ _ (line_rule (feature_names_in d))))
 
 context : (c : ModelContext) → SmallFaults (m.faults_of_context c)
 context c =
-    all (all (all (all (all (all (all (all (listed (type c)) (listed (kind c))) (listed (label c))) (listed (element c))) (listed (link c))) (listed (system c)))
-    (each (numbered (m.items_in c (codes "systems"))) (λ x. inside (state c x))))
-    (each (numbered (m.items_in c (codes "systems"))) (λ x. inside (transition c x))))
-    (items (λ x. need refl))
+    all _ _ (all _ _ (all _ _ (all _ _ (all _ _ (all _ _ (all _ _ (all _ _
+    (listed c Types (codes "types") (m.type_rules c) (type c))
+    (listed c Kinds (codes "kinds") (m.kind_rules c) (kind c)))
+    (listed c Labels (codes "labels") (m.label_rules c) (label c)))
+    (listed c Elements (codes "elements") (m.element_rules c) (element c)))
+    (listed c Links (codes "links") (m.link_rules c) (link c)))
+    (listed c Systems (codes "systems") (m.system_rules c) (system c)))
+    (each (λ x. m.faults_in_item States (codes "states") (m.state_rules c x) x) (numbered (m.items_in c (codes "systems")))
+    (λ x. inside States (codes "states") (m.state_rules c x) x (state c x))))
+    (each (λ x. m.faults_in_item Transitions (codes "transitions") (m.transition_rules c x) x) (numbered (m.items_in c (codes "systems")))
+    (λ x. inside Transitions (codes "transitions") (m.transition_rules c x) x (transition c x))))
+    (items Owners (λ e. requires 20 (m.has_its_system c e.1)) (m.items_in c (codes "elements")) (λ x. need 20 (m.has_its_system c x.1) refl))
 
 model : (features : List (List ℕ)) (d : Document) → SmallFaults (m.model_faults features d)
 unfolding m.model_faults
@@ -161,15 +169,18 @@ model features d = context (m.context_of features (m.model_in d))
 templates : (over : Model) (d : Document) → SmallFaults (t.template_faults over d)
 unfolding t.template_faults
 templates over d =
-    all (all (all (here (both (need refl) (need refl))) (items (template (t.templates_in d))))
-    (each (numbered (t.templates_in d)) (λ x. inside (parameter over x.1))))
-    (each (numbered (t.templates_in d)) (λ x. inside (node (t.context_of over (t.templates_in d) x))))
+    all _ _ (all _ _ (all _ _ (here Templates 0 0 (t.list_rules d) (both _ _ (need _ _ refl) (need _ _ refl)))
+    (items Templates (t.template_rules (t.templates_in d)) (t.templates_in d) (template (t.templates_in d))))
+    (each (λ x. m.faults_in_item Params (codes "params") (t.parameter_rules over x.1) x) (numbered (t.templates_in d))
+    (λ x. inside Params (codes "params") (t.parameter_rules over x.1) x (parameter over x.1))))
+    (each (t.node_faults over (t.templates_in d)) (numbered (t.templates_in d))
+    (λ x. inside Nodes (codes "nodes") (t.node_rules (t.context_of over (t.templates_in d) x)) x (node (t.context_of over (t.templates_in d) x))))
 
 of_bundle : (table : Bool) (d : Document)
     → SmallFaults ((if table then faults_at Bundle 0 0 (bundle_rules d) else no_table ∷ []) ++ (if table then faults_of_readers d else []))
 of_bundle true d =
-    all (here (both (both (need refl) (need refl)) (need refl)))
-    (all (all (line d) (model (feature_names_in d) d)) (templates (model_of (feature_names_in d) d) d))
+    all _ _ (here _ _ _ _ (both _ _ (both _ _ (need _ _ refl) (need _ _ refl)) (need _ _ refl)))
+    (all _ _ (all _ _ (line d) (model (feature_names_in d) d)) (templates (model_of (feature_names_in d) d) d))
 of_bundle false d = record { is = refl }
 
 small_faults : (d : Document) → SmallFaults (bundle_faults d)

@@ -13,7 +13,7 @@ use Rattle.workbench.specs.Products.{StopsOver}
 use Rattle.workbench.specs.Run.{StopsBuilding}
 use Rattle.workbench.specs.StatusView.{status_view}
 use Rattle.workbench.proofs.BuildAnswers.{stops_building}
-use Rattle.workbench.proofs.Exits.{stops_with}
+use Rattle.workbench.proofs.Exits.{stops_with, on_each_ok}
 use Rattle.workbench.proofs.OpenedDiagrams.{is_open, is_shut, shut_is_opened, over_left, untold}
 use Rattle.workbench.proofs.building.build_bundle.Goals as goal
 use Rattle.workbench.proofs.building.build_bundle.Goals.{After-built_over-answer}
@@ -46,7 +46,9 @@ returns-clause-opened c = λ is_open. record {
 }
 
 pub returns-clause-open : goal.returns-clause-open
-returns-clause-open c = there (goal.at.returns-clause-open c).After-built_over-answer
+returns-clause-open c =
+    on_each_ok c.built_over-answer.result ((diagrams_of c.built_over-answer.new.d).is_open ≡ true)
+    (there (goal.at.returns-clause-open c).After-built_over-answer)
 
 pub returns-clause-left : goal.returns-clause-left
 returns-clause-left c =
