@@ -1,0 +1,10 @@
+pub mod Places
+pub mod RoundSteps
+pub mod StateRows
+pub mod Layering
+pub mod ListedLayers
+pub mod RoundsAtWorlds
+pub mod RoundLaws
+pub mod RoundEnds
+pub mod RoundRows
+pub mod SystemFacts

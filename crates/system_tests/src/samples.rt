@@ -1,0 +1,60 @@
+//! The systems that the tests explore, each with the features R, A and B.
+
+ghost use Rattle.std.specs.Prelude.{◌≡◌, length, IfOk};
+ghost use Rattle.annotated_model.specs.ModelFacts.{NamesFeatures};
+
+use annotated_model::Model;
+use cond_text::Names;
+use doc_tree::from_json;
+use std::alloc::Global;
+use std::test::Fail;
+
+/// A run to the state `bad` where A is false.
+pub const SLIP: &str =
+    r#"{"model":{"types":[{"name":"N","system":true}],"labels":["bad"],"elements":[{"name":"c","type":"N"}],"systems":[{"element":"c",
+    "states":[{"name":"s0","initial":true},{"name":"s1"},{"name":"s2"},{"name":"bad","labels":["bad"]}],
+    "transitions":[{"from":"s0","to":"s1","action":"go"},{"from":"s1","to":"s2","action":"go"},{"from":"s1","to":"bad","action":"slip","when":"!A"}]}]}}"#;
+
+/// Two initial states; `end` is reached by one transition where A is, and by two over either of two ways, the later one in the list first;
+/// a circle back to the start; a state that no product reaches.
+pub const WAYS: &str =
+    r#"{"model":{"types":[{"name":"N","system":true}],"elements":[{"name":"c","type":"N"}],"systems":[{"element":"c",
+    "states":[{"name":"end"},{"name":"left"},{"name":"right","initial":true},{"name":"start","initial":true},{"name":"lost"}],
+    "transitions":[
+        {"from":"left","to":"end","action":"a"},
+        {"from":"start","to":"end","action":"b","when":"A"},
+        {"from":"start","to":"left","action":"c"},
+        {"from":"right","to":"left","action":"d","when":"B"},
+        {"from":"end","to":"start","action":"e"},
+        {"from":"start","to":"lost","action":"f","when":"A & !A"},
+        {"from":"lost","to":"lost","action":"g"}]}]}}"#;
+
+/// No transition at all.
+pub const STILL: &str =
+    r#"{"model":{"types":[{"name":"N","system":true}],"elements":[{"name":"c","type":"N","when":"A"}],"systems":[{"element":"c",
+    "states":[{"name":"on","initial":true},{"name":"off"}],"transitions":[]}]}}"#;
+
+/// An element that is never there.
+pub const NEVER: &str =
+    r#"{"model":{"types":[{"name":"N","system":true}],"elements":[{"name":"c","type":"N","when":"A & !A"}],"systems":[{"element":"c",
+    "states":[{"name":"on","initial":true},{"name":"off"}],"transitions":[{"from":"on","to":"off","action":"t"}]}]}}"#;
+
+/// The features R, A and B.
+fn features(alloc: Global) -> Result<Names, Fail>
+    ensures { IfOk result (λ names. length names ≡ 3) }
+{
+    let mut names = Names::new(alloc);
+    names.add("R")?;
+    names.add("A")?;
+    names.add("B")?;
+    Ok(names)
+}
+
+/// The model of a bundle.
+pub fn model(alloc: Global, bundle: &str) -> Result<Box<Model>, Fail>
+    ensures { IfOk result (λ m. NamesFeatures 3 m.value) }
+{
+    let bundle = from_json(alloc, bundle.as_bytes())?;
+    let features = features(alloc)?;
+    Ok(Box::new(alloc, Model::read(alloc, &bundle, &features)?)?)
+}
