@@ -78,12 +78,10 @@ fn explored<W: Worlds>(
     world: &[bool],
     w: &mut W,
 ) -> Result<String, AllocError>
+    requires there { 0 < length model.now.systems }
     requires names { NamesFeatures (W.algebra w.old).count model.now }
     requires length { length world.now ≡ (W.algebra w.old).count }
 {
-    if model.systems().is_empty() {
-        return Ok(String::new(alloc));
-    }
     match explore(alloc, model, 0, w) {
         Ok(e) => shown(alloc, &e, world, w),
         Err(stop) => format!(in alloc; "{stop:?}"),
@@ -93,6 +91,9 @@ fn explored<W: Worlds>(
 /// The same with that world alone, and with diagrams over all worlds.
 fn at(alloc: Global, bundle: &str, world: [bool; 3]) -> Result<(String, String), Fail> {
     let model = model(alloc, bundle)?;
+    if model.systems().is_empty() {
+        return Ok((String::new(alloc), String::new(alloc)));
+    }
     let alone = explored(alloc, &*model, &world, &mut One::new(&world))?;
     let mut diagrams = Diagrams::new(alloc, 10_000, 3)?;
     let among_all = explored(alloc, &*model, &world, &mut diagrams)?;
