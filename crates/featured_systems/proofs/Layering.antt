@@ -1,17 +1,16 @@
 -- Rows of conditions from one layer to the next.
-use Rattle.std.proofs.Common.{◌≡◌, ◌∙◌, refl, sym, ap, subst, ℕ, zero, suc, ◌+◌, ◌<◌, ◌≤◌, List, [], ◌∷◌, ◌++◌, map, length, get_or, set, Bool, true, false, add-one, arith}
-use Rattle.std.specs.Prelude.{◌&&◌, ◌||◌, not, Option, None}
-use Rattle.std.specs.List.{All}
+use Rattle.std.proofs.Common.{◌≡◌, ◌∙◌, sym, ap, ℕ, suc, ◌+◌, List, [], ◌∷◌, ◌++◌, map, get_or, set, Bool, true, false, arith}
+use Rattle.std.specs.Prelude.{◌&&◌, ◌||◌, not, None}
 use Rattle.std.proofs.lemmas.List.{length-map, map-append}
 use Rattle.meaning.specs.Texts.{numbers_from}
 use Rattle.meaning.specs.Systems.{is_some_number}
 use Rattle.meaning.proofs.RunDistances.{numbers_push}
 use Rattle.annotated_model.specs.declared.data.Transition.{Transition}
 use Rattle.worlds.specs.Algebra.{Algebra, Kept, HoldsWhere}
-use Rattle.worlds.specs.Rows.{AllLive, RowWhere, row_at}
+use Rattle.worlds.specs.Rows.{RowWhere, row_at}
 use Rattle.worlds.proofs.Kept.{holds_as, world_before}
 use Rattle.worlds.proofs.Rows.{row_kept, row_push, row_is, row_is_at}
-use Rattle.featured_systems.specs.Rounds.{Front, state_at, states_at, comes, first_into, marked, is_entered, entered_below, seen_below, parents_below, front_at, Fronts, LeadsOnlyTo}
+use Rattle.featured_systems.specs.Rounds.{Front, state_at, states_at, first_into, marked, is_entered, entered_below, seen_below, parents_below, front_at, Fronts, LeadsOnlyTo}
 use Rattle.featured_systems.proofs.RoundSteps.{seen_above, none_into}
 
 abbrev with_rows : List Transition → List Bool → List Bool → Front
@@ -38,7 +37,7 @@ entered_push f seen y =
     ∙ map-append (is_entered f seen) (numbers_from 0 y) ((0 + y) ∷ []) ∙ ap (λ n. entered_below f seen y ++ is_entered f seen n ∷ []) first
 
 module _ {C : Type 0} {a b c : Algebra C} (ts : List Transition) (steps last before reached : List C) (y : ℕ) (ab : Kept a b) (bc : Kept b c) (fronts : Fronts a ts steps last)
-  (rows : RowWhere b reached (λ x. seen_below (front_at a ts steps last x) (row_at a before x) y)) where
+    (rows : RowWhere b reached (λ x. seen_below (front_at a ts steps last x) (row_at a before x) y)) where
   abbrev front : List Bool → Front
   front x = front_at a ts steps last x
 

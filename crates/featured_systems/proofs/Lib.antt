@@ -8,3 +8,4 @@ pub mod RoundLaws
 pub mod RoundEnds
 pub mod RoundRows
 pub mod SystemFacts
+pub mod LeastClosed

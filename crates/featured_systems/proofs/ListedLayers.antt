@@ -1,14 +1,12 @@
 -- The list of the layers, one state after another.
-use Rattle.std.proofs.Common.{◌≡◌, ◌∙◌, refl, sym, ap, subst, ℕ, zero, suc, ◌+◌, ◌<◌, ◌≤◌, ◌⊎◌, inl, inr, List, [], ◌∷◌, ◌++◌, map, length, get_or, Bool, true, false, append_assoc, arith}
+use Rattle.std.proofs.Common.{◌≡◌, ◌∙◌, refl, sym, ap, subst, ℕ, suc, ◌+◌, inl, inr, List, [], ◌∷◌, ◌++◌, map, get_or, Bool, true, false, append_assoc, arith}
 use Rattle.std.specs.Prelude.{if◌then◌else◌, filter}
 use Rattle.std.specs.List.{All, AllByRecursion}
 use Rattle.std.proofs.lemmas.List.{map-append}
 use Rattle.std.proofs.lemmas.List.Elements.{All-push, All-weaker, All-map, recursion_from_All, filter-append}
 use Rattle.meaning.specs.Texts.{numbers_from}
 use Rattle.meaning.proofs.RunDistances.{numbers_push}
-use Rattle.worlds.specs.Algebra.{Algebra, Kept, HoldsNowhere}
-use Rattle.worlds.proofs.Kept.{world_before}
-use Rattle.worlds.proofs.Rows.{map_same}
+use Rattle.worlds.specs.Algebra.{Algebra, Kept}
 use Rattle.featured_systems.specs.Exploring.{IsLayer, IsNearer, Ascending, layers_at}
 use Rattle.featured_systems.specs.Rounds.{states_in, Listed}
 

@@ -1,12 +1,12 @@
 -- Before the first round, the list of the layers, and after the last round, at one world.
-use Rattle.std.proofs.Common.{◌≡◌, ◌∙◌, refl, sym, ap, subst, ℕ, zero, suc, ◌+◌, ◌-◌, ◌<◌, ◌≤◌, ◌⊎◌, inl, inr, List, [], ◌∷◌, ◌++◌, map, length, get_or, replicate, Bool, true, false, append_assoc, arith}
-use Rattle.std.specs.Prelude.{◌&&◌, ◌||◌, not, ◌==◌, nat_le, if◌then◌else◌, Option, Some, None, filter}
-use Rattle.std.proofs.lemmas.Bool.{false≢true, eqb-true}
-use Rattle.std.proofs.lemmas.List.{length-map, length-replicate, get_or-map, get_or-replicate, ext_get_or, append-nil}
+use Rattle.std.proofs.Common.{◌≡◌, ◌∙◌, refl, sym, ap, ℕ, zero, suc, ◌+◌, ◌-◌, ◌<◌, ◌≤◌, ◌⊎◌, inl, inr, List, [], ◌∷◌, ◌++◌, map, length, get_or, replicate, Bool, true, false, append_assoc, arith}
+use Rattle.std.specs.Prelude.{◌&&◌, ◌==◌, nat_le, if◌then◌else◌, Option, Some, None, filter}
+use Rattle.std.proofs.lemmas.Bool.{eqb-true}
+use Rattle.std.proofs.lemmas.List.{length-map, get_or-map, ext_get_or, append-nil}
 use Rattle.std.proofs.lemmas.List.FromFn.{length-enumerate_from}
 use Rattle.meaning.specs.Texts.{numbered, numbers_from, flat, holds_at}
 use Rattle.meaning.specs.Models.{State, Transition, PlainSystem}
-use Rattle.meaning.specs.Systems.{distance, is_number, is_some_number, is_reachable, ends_after}
+use Rattle.meaning.specs.Systems.{distance, is_number, is_some_number, is_reachable}
 use Rattle.meaning.specs.Layers.{is_within, states_at_distance, states_by_distance}
 use Rattle.meaning.specs.Tidy.{is_step_back}
 use Rattle.meaning.proofs.RunDistances.{true_or_false, false_if_not, first_layer, within_none, back_none, back_at_last, distance_below, numbers_push, length_numbers}

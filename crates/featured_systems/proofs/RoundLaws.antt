@@ -1,15 +1,14 @@
 -- One round at one world is one distance more.
-use Rattle.std.proofs.Common.{◌≡◌, ◌∙◌, refl, sym, ap, subst, ℕ, zero, suc, ◌+◌, ◌<◌, ◌≤◌, List, [], ◌∷◌, ◌++◌, map, length, get_or, Bool, true, false, arith}
-use Rattle.std.specs.Prelude.{◌&&◌, ◌||◌, not, if◌then◌else◌, Option, Some, None, find}
-use Rattle.std.specs.List.{All, enumerate_from}
+use Rattle.std.proofs.Common.{◌≡◌, ◌∙◌, refl, sym, ap, ℕ, zero, suc, ◌+◌, ◌<◌, List, [], ◌∷◌, map, length, get_or, Bool, true, false, arith}
+use Rattle.std.specs.Prelude.{◌&&◌, ◌||◌, not, None, find}
+use Rattle.std.specs.List.{All}
 use Rattle.std.proofs.lemmas.List.{length-map, get_or-map, ext_get_or}
 use Rattle.std.proofs.lemmas.List.FromFn.{length-enumerate_from, get_or-enumerate_from}
 use Rattle.meaning.specs.Texts.{numbered, numbers_from}
 use Rattle.meaning.specs.Expressions.{truth}
-use Rattle.meaning.specs.Models.{Transition, System, PlainSystem, projection}
+use Rattle.meaning.specs.Models.{Transition, System, projection}
 use Rattle.meaning.specs.Systems.{distance, is_number, is_some_number, IsProperSystem}
 use Rattle.meaning.specs.Layers.{is_within}
-use Rattle.meaning.specs.Tidy.{is_step_back}
 use Rattle.meaning.proofs.RunDistances.{number_back, next_distance, within_next, back_next, length_numbers}
 use Rattle.featured_systems.specs.Rounds.{Front, places, comes, first_into, is_entered, entered_below, seen_below, parents_below, layer_of, seen_of, goes_back, parents_of}
 use Rattle.featured_systems.proofs.RoundSteps.{none_into}

@@ -1,16 +1,14 @@
 -- The rows of conditions over the rounds.
-use Rattle.std.proofs.Common.{◌≡◌, ◌∙◌, refl, sym, ap, subst, ℕ, zero, suc, ◌+◌, ◌-◌, ◌<◌, ◌≤◌, ◌⊎◌, inl, inr, List, [], ◌∷◌, ◌++◌, map, length, get_or, replicate, Bool, true, false, arith}
+use Rattle.std.proofs.Common.{◌≡◌, ◌∙◌, refl, sym, ap, subst, ℕ, zero, suc, ◌+◌, ◌<◌, ◌≤◌, ◌⊎◌, inl, inr, List, [], ◌∷◌, ◌++◌, map, length, get_or, replicate, Bool, true, false, arith}
 use Rattle.std.specs.Prelude.{◌&&◌, nat_le, Option, Some, None}
 use Rattle.std.specs.List.{All}
 use Rattle.std.proofs.lemmas.Bool.{false≢true, eqb-true}
-use Rattle.std.proofs.lemmas.List.{length-map, get_or_past, get_or-map}
+use Rattle.std.proofs.lemmas.List.{length-map, get_or_past}
 use Rattle.std.proofs.lemmas.List.Elements.{All-map, All-weaker}
-use Rattle.meaning.specs.Texts.{numbered, numbers_from, holds_at}
+use Rattle.meaning.specs.Texts.{holds_at}
 use Rattle.meaning.specs.Expressions.{truth}
-use Rattle.meaning.specs.Models as meaning
 use Rattle.meaning.specs.Models.{PlainSystem, projection}
-use Rattle.meaning.specs.Systems.{distance, is_number, is_reachable, ends_after, IsProperSystem}
-use Rattle.meaning.specs.Layers.{is_within}
+use Rattle.meaning.specs.Systems.{distance, is_number, ends_after, IsProperSystem}
 use Rattle.meaning.proofs.RunDistances.{true_or_false, false_if_not, distance_is, last_step, all_within, all_within_before}
 use Rattle.cond_text.specs.View.{expression}
 use Rattle.annotated_model.specs.View.{state_view, transition_view, system_view}
@@ -18,15 +16,15 @@ use Rattle.annotated_model.specs.declared.data.State.{State}
 use Rattle.annotated_model.specs.declared.data.Transition.{Transition}
 use Rattle.annotated_model.specs.declared.data.System.{System}
 use Rattle.worlds.specs.Algebra.{Algebra, Kept}
-use Rattle.worlds.specs.Rows.{AllLive, RowWhere, row_at}
+use Rattle.worlds.specs.Rows.{RowWhere, row_at}
 use Rattle.worlds.proofs.Kept.{world_before}
-use Rattle.worlds.proofs.Rows.{row_is, row_is_at, row_later}
+use Rattle.worlds.proofs.Rows.{row_is, row_is_at}
 use Rattle.featured_systems.specs.Exploring.{layers_at}
-use Rattle.featured_systems.specs.Rounds.{Front, state_at, states_at, entered_below, seen_below, parents_below, front_at, layer_of, seen_of, parents_of, layers_to, states_in, Listed, HasReached, HasExplored}
+use Rattle.featured_systems.specs.Rounds.{states_at, entered_below, seen_below, parents_below, front_at, layer_of, seen_of, parents_of, layers_to, states_in, Listed, HasReached, HasExplored}
 use Rattle.featured_systems.proofs.RoundsAtWorlds.{at_number}
 use Rattle.featured_systems.proofs.RoundLaws.{IsFront, HasEnds, next_layer_is, next_seen_is, next_parents_are}
 use Rattle.featured_systems.proofs.RoundEnds.{NoneFurther, holds_is, first_layer_is, first_seen_is, first_parents_are, layers_push, last_seen_is, last_parents_are, last_layers_are}
-use Rattle.featured_systems.proofs.ListedLayers.{listed_later, layers_later}
+use Rattle.featured_systems.proofs.ListedLayers.{layers_later}
 
 number_is : (d : ℕ) (o : Option ℕ) → is_number d o ≡ true → o ≡ Some d
 number_is d None h = absurd (false≢true h)
@@ -109,11 +107,11 @@ module _ {C : Type 0} (there : List Bool → Bool) (system : System) where
   }
 
   module _ {a b : Algebra C} (steps last reached parents : List C) (d : ℕ) (kept : Kept a b) (fits : Fits system)
-    (proper : (x : List Bool) → IsProperSystem (projection x (system_view system))) (below : suc d < length system.states) (long : length last ≡ length system.states)
-    (step_rows : RowWhere a steps (λ x. map (λ t. there x && truth (expression t.when) x) system.transitions))
-    (last_rows : RowWhere a last (λ x. layer_of (there x) (projection x (system_view system)) d))
-    (reached_rows : RowWhere a reached (λ x. seen_of (there x) (projection x (system_view system)) d))
-    (parents_rows : RowWhere a parents (λ x. parents_of (there x) (projection x (system_view system)) (system_view system).transitions d)) where
+      (proper : (x : List Bool) → IsProperSystem (projection x (system_view system))) (below : suc d < length system.states) (long : length last ≡ length system.states)
+      (step_rows : RowWhere a steps (λ x. map (λ t. there x && truth (expression t.when) x) system.transitions))
+      (last_rows : RowWhere a last (λ x. layer_of (there x) (projection x (system_view system)) d))
+      (reached_rows : RowWhere a reached (λ x. seen_of (there x) (projection x (system_view system)) d))
+      (parents_rows : RowWhere a parents (λ x. parents_of (there x) (projection x (system_view system)) (system_view system).transitions d)) where
     within : suc d < length (system_view system).states
     within = let same = length-map system.states state_view in omega (arith, same, below)
 
@@ -166,12 +164,12 @@ module _ {C : Type 0} (there : List Bool → Bool) (system : System) where
 
   -- all that one more round and its list give, in the words of the calls
   module _ {a b : Algebra C} (ts : List Transition) (l m steps last reached parents next after_reached after_parents : List C) (layers mid after : List (ℕ × ℕ × C)) (d : ℕ)
-    (is_ts : ts ≡ system.transitions) (is_last : l ≡ last) (is_next : m ≡ next) (is_mid : mid ≡ layers) (kept : Kept a b) (fits : Fits system)
-    (proper : (x : List Bool) → IsProperSystem (projection x (system_view system))) (below : suc d < length system.states) (long : length last ≡ length system.states)
-    (step_rows : RowWhere a steps (λ x. map (λ t. there x && truth (expression t.when) x) system.transitions))
-    (last_rows : RowWhere a last (λ x. layer_of (there x) (projection x (system_view system)) d))
-    (so_far : HasReached a there (system_view system) d reached parents layers)
-    (entered : RowWhere b next (λ x. entered_below (front_at a ts steps l x) (row_at a reached x) (length l))) where
+      (is_ts : ts ≡ system.transitions) (is_last : l ≡ last) (is_next : m ≡ next) (is_mid : mid ≡ layers) (kept : Kept a b) (fits : Fits system)
+      (proper : (x : List Bool) → IsProperSystem (projection x (system_view system))) (below : suc d < length system.states) (long : length last ≡ length system.states)
+      (step_rows : RowWhere a steps (λ x. map (λ t. there x && truth (expression t.when) x) system.transitions))
+      (last_rows : RowWhere a last (λ x. layer_of (there x) (projection x (system_view system)) d))
+      (so_far : HasReached a there (system_view system) d reached parents layers)
+      (entered : RowWhere b next (λ x. entered_below (front_at a ts steps l x) (row_at a reached x) (length l))) where
     further : suc d ≡ d + 1
     further = omega arith
 

@@ -1,22 +1,16 @@
 -- What a round does to the rows of one world, in the words of distances.
-use Rattle.std.proofs.Common.{◌≡◌, ◌∙◌, refl, sym, ap, subst, ℕ, zero, suc, ◌+◌, ◌<◌, ◌≤◌, ◌⊎◌, inl, inr, List, [], ◌∷◌, ◌++◌, map, length, get_or, set, Bool, true, false, arith}
-use Rattle.std.specs.Prelude.{◌&&◌, ◌||◌, not, ◌==◌, nat_le, if◌then◌else◌, Option, Some, None, option_map, find, filter}
-use Rattle.std.specs.List.{All, enumerate_from}
+use Rattle.std.proofs.Common.{◌≡◌, ◌∙◌, refl, sym, ap, ℕ, zero, suc, ◌+◌, ◌<◌, ◌≤◌, List, [], ◌∷◌, map, length, get_or, set, Bool, true, false, arith}
+use Rattle.std.specs.Prelude.{◌&&◌, ◌||◌, not, ◌==◌, Option, Some, None, option_map, find, filter}
+use Rattle.std.specs.List.{enumerate_from}
 use Rattle.std.proofs.lemmas.Bool.{false≢true, eqb-true, eq-eqb}
-use Rattle.std.proofs.lemmas.List.{length-set, length-map, get_or-map, get_or-set_same, get_or-set_other, ext_get_or}
+use Rattle.std.proofs.lemmas.List.{length-set, get_or-map, get_or-set_same, get_or-set_other}
 use Rattle.std.proofs.lemmas.List.Elements.{All-contains}
-use Rattle.std.proofs.lemmas.List.FromFn.{length-enumerate_from, get_or-enumerate_from}
-use Rattle.meaning.specs.Texts.{numbered, numbers_from}
-use Rattle.meaning.specs.Expressions.{truth}
-use Rattle.meaning.specs.Models.{Transition, System, PlainSystem, projection}
-use Rattle.meaning.specs.Systems.{distance, is_number, is_some_number, IsProperSystem}
-use Rattle.meaning.specs.Layers.{is_within}
-use Rattle.meaning.specs.Tidy.{is_step_back}
-use Rattle.meaning.proofs.RunDistances.{found, number_back, next_distance, within_next, back_next, length_numbers}
-use Rattle.annotated_model.specs.ModelFacts.{TransitionFits}
-use Rattle.featured_systems.specs.Rounds.{Front, places, comes, first_into, marked, is_entered, entered_below, seen_below, parents_below, layer_of, seen_of, goes_back, parents_of}
+use Rattle.meaning.specs.Texts.{numbers_from}
+use Rattle.meaning.specs.Models.{Transition}
+use Rattle.meaning.specs.Systems.{is_number, is_some_number}
+use Rattle.meaning.proofs.RunDistances.{found, length_numbers}
+use Rattle.featured_systems.specs.Rounds.{Front, places, comes, first_into, marked, seen_below, parents_below}
 use Rattle.featured_systems.proofs.Places.{IsPlace, all_places}
-use Rattle.featured_systems.proofs.RoundSteps.{none_into}
 
 -- ---- rows of numbers
 

@@ -1,14 +1,13 @@
 -- Rows of conditions while a state is entered.
-use Rattle.std.proofs.Common.{◌≡◌, ◌∙◌, refl, sym, ap, subst, ℕ, zero, suc, ◌+◌, ◌<◌, ◌≤◌, List, [], ◌∷◌, ◌++◌, map, length, get_or, set, Bool, true, false, arith}
+use Rattle.std.proofs.Common.{◌≡◌, ◌∙◌, sym, ap, subst, ℕ, ◌<◌, List, [], ◌∷◌, ◌++◌, length, get_or, set, Bool, false, arith}
 use Rattle.std.specs.Prelude.{◌&&◌, ◌||◌, not, find}
-use Rattle.std.specs.List.{All}
-use Rattle.std.proofs.lemmas.List.{get_or-map, length-map}
+use Rattle.std.proofs.lemmas.List.{get_or-map}
 use Rattle.meaning.specs.Systems.{is_some_number}
 use Rattle.annotated_model.specs.declared.data.Transition.{Transition}
 use Rattle.worlds.specs.Algebra.{Algebra, Kept, HoldsWhere}
-use Rattle.worlds.specs.Rows.{AllLive, RowWhere, row_at}
+use Rattle.worlds.specs.Rows.{RowWhere, row_at}
 use Rattle.worlds.proofs.Kept.{kept_then, holds_as, holds_later, world_before}
-use Rattle.worlds.proofs.Rows.{at_row, live_at, holds_at_place, row_set, row_is, row_later}
+use Rattle.worlds.proofs.Rows.{at_row, live_at, holds_at_place, row_set, row_is}
 use Rattle.featured_systems.specs.Rounds.{state_at, states_at, comes, marked, front_at, Fronts}
 use Rattle.featured_systems.proofs.RoundSteps.{gains, seen_more, entered_more, parents_more}
 

@@ -1,6 +1,6 @@
 -- A system of a model by its number: what holds of it, what its conditions ask, and that it is explored.
-use Rattle.std.proofs.Common.{◌≡◌, ◌∙◌, refl, sym, ap, subst, ℕ, zero, suc, ◌+◌, ◌*◌, ◌<◌, ◌≤◌, List, [], ◌∷◌, map, length, get_or, Bool, true, false, arith}
-use Rattle.std.specs.Prelude.{◌&&◌, if◌then◌else◌, Option, Some, None, option_map, unwrap_or}
+use Rattle.std.proofs.Common.{◌≡◌, ◌∙◌, refl, sym, ap, subst, ℕ, zero, suc, ◌+◌, ◌*◌, ◌<◌, ◌≤◌, List, [], ◌∷◌, map, length, get_or, Bool, true, arith}
+use Rattle.std.specs.Prelude.{◌&&◌, if◌then◌else◌, Some, option_map, unwrap_or}
 use Rattle.std.specs.List.{All, slice_get, sum_by}
 use Rattle.std.proofs.Math.Nat.{mul-le-mul}
 use Rattle.std.proofs.lemmas.List.{length-map, get_or-map}
@@ -12,9 +12,9 @@ use Rattle.meaning.specs.Expressions.{Expression, Top, Bottom, Name, Not, Both, 
 use Rattle.meaning.specs.Models as meaning
 use Rattle.meaning.specs.Models.{Model, has_element, projection}
 use Rattle.meaning.specs.Systems.{distance, is_reachable}
-use Rattle.meaning.specs.Layers.{is_system_there, steps_there, reached_there, parents_there, layers_there, states_by_distance}
+use Rattle.meaning.specs.Layers.{is_system_there, steps_there, reached_there, parents_there, states_by_distance}
 use Rattle.meaning.specs.Tidy.{is_step_back}
-use Rattle.meaning.specs.Bounds.{system_size, size_of_system, asks_of_exploring}
+use Rattle.meaning.specs.Bounds.{asks_of_exploring}
 use Rattle.cond_text.specs.View.{expression}
 use Rattle.annotated_model.specs.View.{state_view, transition_view, system_view}
 use Rattle.annotated_model.specs.ModelFacts.{SystemFits, TransitionFits}

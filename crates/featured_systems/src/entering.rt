@@ -27,12 +27,7 @@ fn join<W: Worlds>(a: W::C, b: W::C, w: &mut W) -> Result<W::C, NodeLimit>
 }
 
 /// Holds where a state of the last layer and the step from it hold, and the end isn't seen yet.
-fn gain<W: Worlds>(
-    from: W::C,
-    step: W::C,
-    seen: W::C,
-    w: &mut W,
-) -> Result<W::C, NodeLimit>
+fn gain<W: Worlds>(from: W::C, step: W::C, seen: W::C, w: &mut W) -> Result<W::C, NodeLimit>
     requires from_live { (W.algebra w.old).live from }
     requires step_live { (W.algebra w.old).live step }
     requires seen_live { (W.algebra w.old).live seen }
@@ -119,7 +114,15 @@ fn enter_state<W: Worlds>(
         return Ok(w.never());
     }
     let before = found.reached[y];
-    let (seen, entered) = enter(numbers, transitions, steps, last, before, &mut found.parents, w)?;
+    let (seen, entered) = enter(
+        numbers,
+        transitions,
+        steps,
+        last,
+        before,
+        &mut found.parents,
+        w,
+    )?;
     found.reached[y] = seen;
     Ok(entered)
 }

@@ -97,7 +97,16 @@ fn rounds<W: Worlds>(
     let mut last = starts(alloc, system.states.list(), there, w)?;
     list_layer(0, &last, &mut found.layers, w)?;
     'rounds: for before in 0..system.states.list().len().saturating_sub(1) {
-        last = next_round(alloc, system.transitions.list(), steps, from, into, &last, found, w)?;
+        last = next_round(
+            alloc,
+            system.transitions.list(),
+            steps,
+            from,
+            into,
+            &last,
+            found,
+            w,
+        )?;
         if !list_layer((before + 1) as u16, &last, &mut found.layers, w)? {
             return Ok(());
         }
@@ -160,7 +169,11 @@ pub fn explore<W: Worlds>(
     let system = &model.systems()[usize::from(system)];
     let there = condition(&model.elements()[usize::from(system.element)].when, w)?;
     let steps = steps_of(alloc, system.transitions.list(), there, w)?;
-    let Found { reached, parents, layers } = found_of(alloc, system, there, &steps, w)?;
+    let Found {
+        reached,
+        parents,
+        layers,
+    } = found_of(alloc, system, there, &steps, w)?;
     Ok(Explored {
         reached: Row::of(reached),
         parents: Row::of(parents),

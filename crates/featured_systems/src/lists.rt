@@ -54,7 +54,11 @@ pub fn numbers_by_state(
 {
     let mut lists = no_lists(alloc, states)?;
     'transitions: for (number, transition) in transitions.iter().enumerate() {
-        add(&mut lists, usize::from(state_of(transition, end)), number as u16)?;
+        add(
+            &mut lists,
+            usize::from(state_of(transition, end)),
+            number as u16,
+        )?;
     }
     Ok(lists)
 }

@@ -1,8 +1,8 @@
-use Rattle.std.proofs.Common.{◌≡◌, ◌∙◌, ℕ, ◌<◌, ◌≤◌, ◌+◌, ◌*◌, ◌∷◌, ◌++◌, [], List, Bool, get_or, length, take, set, sym, ap, subst, refl, arith}
+use Rattle.std.proofs.Common.{◌≡◌, ◌∙◌, ℕ, ◌<◌, ◌+◌, List, Bool, get_or, length, take, sym, ap, arith}
 use Rattle.std.proofs.lemmas.List.{length-set, take_more}
 use Rattle.annotated_model.specs.declared.data.Transition.{Transition}
 use Rattle.worlds.specs.Rows.{row_at}
-use Rattle.worlds.proofs.Kept.{kept_then, worked_then, worked_at_most, holds_later, refused_later}
+use Rattle.worlds.proofs.Kept.{kept_then, worked_then, worked_at_most, holds_later}
 use Rattle.featured_systems.specs.Rounds.{comes, front_at}
 use Rattle.featured_systems.proofs.StateRows.{came, joined, gained_is, seen_is, entered_is, parents_are}
 use Rattle.featured_systems.proofs.entering.enter.Goals as goal

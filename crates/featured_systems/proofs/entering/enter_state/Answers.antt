@@ -1,11 +1,11 @@
-use Rattle.std.proofs.Common.{◌≡◌, ◌∙◌, ℕ, ◌<◌, ◌≤◌, ◌+◌, ◌*◌, List, Bool, get_or, length, set, sym, ap, subst, refl, true, false, ◌||◌, arith}
+use Rattle.std.proofs.Common.{◌∙◌, ◌<◌, List, Bool, get_or, length, sym, ap, subst, true, false, ◌||◌, arith}
 use Rattle.std.specs.Prelude.{find}
 use Rattle.std.specs.List.{All}
 use Rattle.std.proofs.lemmas.List.{length-map}
 use Rattle.std.proofs.lemmas.List.Elements.{All-weaker}
 use Rattle.meaning.specs.Systems.{is_some_number}
 use Rattle.worlds.specs.Rows.{row_at}
-use Rattle.worlds.proofs.Kept.{kept_itself, holds_as, world_before}
+use Rattle.worlds.proofs.Kept.{kept_itself, holds_as}
 use Rattle.worlds.proofs.Rows.{row_set, row_as_before, at_row}
 use Rattle.featured_systems.specs.Rounds.{places, states_at, state_at, comes, first_into, front_at}
 use Rattle.featured_systems.proofs.Places.{IsPlace, all_places}

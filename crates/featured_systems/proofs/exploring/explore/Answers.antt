@@ -1,9 +1,8 @@
-use Rattle.std.specs.Prelude.{◌&&◌, Some}
-use Rattle.std.proofs.Common.{◌≡◌, ◌∙◌, ℕ, ◌<◌, ◌≤◌, ◌+◌, ◌*◌, List, Bool, get_or, length, map, sym, ap, subst, arith, refl}
-use Rattle.std.specs.List.{sum_by, slice_get, All}
+use Rattle.std.specs.Prelude.{◌&&◌}
+use Rattle.std.proofs.Common.{◌∙◌, ◌≤◌, ◌+◌, ◌*◌, List, Bool, length, map, sym, ap, subst, arith}
+use Rattle.std.specs.List.{sum_by, All}
 use Rattle.std.proofs.lemmas.List.{length-map}
 use Rattle.meaning.specs.Expressions.{truth, size_of, name_bound}
-use Rattle.meaning.specs.Models as meaning
 use Rattle.meaning.specs.Bounds.{asks_of_exploring}
 use Rattle.cond_text.specs.View.{expression}
 use Rattle.annotated_model.specs.View.{state_view, transition_view, system_view, element_view}
@@ -11,7 +10,6 @@ use Rattle.annotated_model.specs.ModelFacts.{SystemFits}
 use Rattle.annotated_model.specs.declared.data.Transition.{Transition}
 use Rattle.annotated_model.proofs.ProperProducts.{projection_is_proper}
 use Rattle.worlds.specs.Algebra.{Worked}
-use Rattle.worlds.specs.Rows.{RowWhere}
 use Rattle.worlds.proofs.Kept.{kept_then, worked_then, worked_at_most, world_before}
 use Rattle.worlds.proofs.Rows.{row_later, row_is_at}
 use Rattle.featured_systems.specs.Exploring.{IsExplored}

@@ -1,13 +1,9 @@
 use Rattle.std.specs.Prelude.{◌&&◌, ◌++◌, true}
-use Rattle.std.proofs.Common.{◌≡◌, ◌∙◌, ℕ, ◌<◌, ◌≤◌, ◌+◌, ◌-◌, ◌*◌, suc, List, Bool, false, get_or, length, map, sym, ap, subst, arith, refl, rules}
-use Rattle.std.specs.List.{sum_by, All}
+use Rattle.std.proofs.Common.{◌≡◌, ◌∙◌, ℕ, ◌<◌, ◌≤◌, ◌+◌, ◌*◌, suc, List, Bool, false, get_or, length, map, sym, ap, subst, arith}
 use Rattle.std.proofs.Math.Nat.{mul-le-mul_right, add-mul}
 use Rattle.std.proofs.lemmas.List.Elements.{All-weaker}
-use Rattle.meaning.specs.Models.{projection}
-use Rattle.annotated_model.specs.View.{system_view}
 use Rattle.annotated_model.specs.declared.data.State.{State}
 use Rattle.annotated_model.specs.declared.data.Transition.{Transition}
-use Rattle.worlds.specs.Algebra.{Algebra, Worked}
 use Rattle.worlds.specs.Rows.{RowWhere, row_at}
 use Rattle.worlds.proofs.Kept.{worked_itself, worked_then, worked_at_most}
 use Rattle.worlds.proofs.Rows.{row_later, live_later}

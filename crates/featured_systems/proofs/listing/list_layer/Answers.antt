@@ -1,4 +1,4 @@
-use Rattle.std.proofs.Common.{◌≡◌, ◌∙◌, ℕ, ◌<◌, ◌≤◌, ◌+◌, ◌⊎◌, inl, inr, Bool, true, false, get_or, sym, ap, subst, arith}
+use Rattle.std.proofs.Common.{◌≡◌, ◌∙◌, inl, inr, false, get_or, sym, ap, arith}
 use Rattle.std.specs.Prelude.{◌==◌}
 use Rattle.std.proofs.lemmas.Bool.{eqb-true, eq-eqb, false≢true}
 use Rattle.meaning.proofs.RunDistances.{true_or_false}
@@ -21,8 +21,8 @@ states-preserved g c =
           elim (true_or_false (k == y)) [
             | inl e ↦ ap (λ i. get_or (row_at a layer x) i false) (eqb-true k y e) ∙ sym (at_row a layer x y there c.states-test.true c.index-layer-y.is) ∙ call.any nothing x w
             | inr e ↦
-              let other : (k ≡ y) → ⊥ = λ same. false≢true (sym e ∙ eq-eqb k y same) in
-              so_far.none (call.before nothing) x w k (grind (arith, below, other))
+                let other : (k ≡ y) → ⊥ = λ same. false≢true (sym e ∙ eq-eqb k y same) in
+                so_far.none (call.before nothing) x w k (grind (arith, below, other))
           ];
       listed = call.listed;
       layers = λ x w. one_more_state c.args.distance (row_at a layer x) y (layers_at a c.args.layers.now.items x) (layers_at a c.states.layers.items x) _ (a.holds there x)

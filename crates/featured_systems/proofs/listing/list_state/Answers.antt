@@ -1,6 +1,6 @@
-use Rattle.std.proofs.Common.{◌≡◌, ◌+◌, ◌∷◌, ◌++◌, [], sym, ap, subst, rules}
+use Rattle.std.proofs.Common.{◌+◌, sym, subst, rules}
 use Rattle.featured_systems.specs.Rounds.{Listed}
-use Rattle.featured_systems.proofs.ListedLayers.{listed_push, listed_past}
+use Rattle.featured_systems.proofs.ListedLayers.{listed_push}
 use Rattle.featured_systems.proofs.listing.list_state.Goals as goal
 
 pub returns-clause-listed : goal.returns-clause-listed

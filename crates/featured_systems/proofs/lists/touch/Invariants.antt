@@ -1,4 +1,4 @@
-use Rattle.std.proofs.Common.{◌≡◌, ℕ, length, get_or, take, Bool, true, false}
+use Rattle.std.proofs.Common.{◌≡◌, ℕ, length, get_or, take, true, false}
 use Rattle.std.specs.List.{All}
 use Rattle.featured_systems.specs.Rounds.{states_at}
 use Rattle.featured_systems.proofs.lists.touch.Given as goal

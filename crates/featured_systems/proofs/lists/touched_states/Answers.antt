@@ -1,4 +1,4 @@
-use Rattle.std.proofs.Common.{◌≡◌, ◌∙◌, ℕ, ◌<◌, ◌≤◌, ◌+◌, List, [], Bool, true, false, ◌⊎◌, inl, inr, get_or, length, map, sym, ap, subst, refl, arith, rules}
+use Rattle.std.proofs.Common.{◌≡◌, ◌∙◌, ◌<◌, ◌+◌, [], true, false, inl, inr, get_or, length, sym, ap, subst, arith}
 use Rattle.std.specs.Prelude.{◌==◌, Contains}
 use Rattle.std.specs.List.{All}
 use Rattle.std.proofs.lemmas.Bool.{eqb-true, eq-eqb, false≢true}
@@ -39,12 +39,12 @@ states-preserved g c =
           false_if_not _ (λ h. false≢true (sym away ∙ c.touch_from.ensures.kept (get_or (states_at true ts) t 0) h)) in
           elim (true_or_false (get_or sources t 0 == y)) [
             | inl e ↦
-              let same : get_or sources t 0 ≡ y = eqb-true (get_or sources t 0) y e in
-              let place : t ≡ 0 + t = omega arith in
-              let among = subst (λ ns. Contains ns t) (sym numbers) (subst (Contains (places 0 y sources)) (sym place) (place_among 0 y sources t (omega (arith, below, long)) same)) in
-              ap (λ k. get_or (row_at a c.args.last.now x) k false) same ∙ sym (at_row a c.args.last.now x y from within c.index-last-state.is) ∙ c.touch_from.ensures.left t among away x w
+                let same : get_or sources t 0 ≡ y = eqb-true (get_or sources t 0) y e in
+                let place : t ≡ 0 + t = omega arith in
+                let among = subst (λ ns. Contains ns t) (sym numbers) (subst (Contains (places 0 y sources)) (sym place) (place_among 0 y sources t (omega (arith, below, long)) same)) in
+                ap (λ k. get_or (row_at a c.args.last.now x) k false) same ∙ sym (at_row a c.args.last.now x y from within c.index-last-state.is) ∙ c.touch_from.ensures.left t among away x w
             | inr e ↦
-              let other : (get_or sources t 0 ≡ y) → ⊥ = λ same. false≢true (sym e ∙ eq-eqb (get_or sources t 0) y same) in
-              so_far.touched t below (grind (arith, near, other)) old x w
+                let other : (get_or sources t 0 ≡ y) → ⊥ = λ same. false≢true (sym e ∙ eq-eqb (get_or sources t 0) y same) in
+                so_far.touched t below (grind (arith, near, other)) old x w
           ];
     }

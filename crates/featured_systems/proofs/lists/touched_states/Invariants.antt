@@ -1,4 +1,4 @@
-use Rattle.std.proofs.Common.{◌≡◌, ℕ, ◌<◌, length, get_or, Bool, true, false}
+use Rattle.std.proofs.Common.{◌≡◌, ℕ, ◌<◌, length, get_or, true, false}
 use Rattle.worlds.specs.Rows.{row_at}
 use Rattle.featured_systems.specs.Rounds.{states_at}
 use Rattle.featured_systems.proofs.lists.touched_states.Given as goal

@@ -1,4 +1,4 @@
-use Rattle.std.proofs.Common.{◌≡◌, ◌∙◌, ℕ, ◌<◌, ◌≤◌, ◌+◌, ◌*◌, ◌∷◌, ◌++◌, [], List, Bool, ◌&&◌, get_or, length, map, take, sym, ap, subst, arith}
+use Rattle.std.proofs.Common.{◌≡◌, ◌∙◌, ◌+◌, ◌*◌, ◌∷◌, ◌++◌, [], List, Bool, ◌&&◌, get_or, length, map, take, sym, ap, subst, arith}
 use Rattle.std.proofs.lemmas.List.{map_more, length-append}
 use Rattle.std.proofs.lemmas.List.Sums.{sum_by_more}
 use Rattle.meaning.specs.Expressions.{truth, size_of}
