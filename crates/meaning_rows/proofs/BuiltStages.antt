@@ -7,7 +7,7 @@ use Rattle.meaning.specs.BundleRules.{no_table}
 use Rattle.meaning.specs.Answers.{bundle_in, Faulty, Good}
 use Rattle.meaning.specs.Stages.{no_case_faults, building_templates, complete, plain_words}
 use Rattle.meaning.specs.BuiltForms.{has_no_solutions}
-use Rattle.meaning_rows.proofs.Samples.{json, edited, smallest_bundle, one_enumeration_bundle, alternatives_bundle, pairs_bundle, nested_bundle, system_bundle, meaning_on_literals, rules_on_literals}
+use Rattle.meaning_rows.proofs.Samples.{json, smallest_bundle, one_enumeration_bundle, alternatives_bundle, pairs_bundle, nested_bundle, system_bundle, meaning_on_literals, rules_on_literals}
 
 without_solutions : List ℕ → Option Bool
 without_solutions bundle = option_map has_no_solutions (document_of Json bundle)

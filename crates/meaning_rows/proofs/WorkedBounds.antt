@@ -9,7 +9,7 @@ use Rattle.meaning.specs.Derivation.{Bundle, bundle_of}
 use Rattle.meaning.specs.Queries.{Path}
 use Rattle.meaning.specs.Worlds.{worlds}
 use Rattle.meaning.specs.Entries.{places_at}
-use Rattle.meaning.specs.Bounds.{work_of, work_in_rows_of, line_asks, asks_of_report, asks_of_rules, asks_of_audit, nodes_of_functions, pairs_at, Pair, annotation_width, query_width, paths_in, distinct_paths, model_size, most_variables}
+use Rattle.meaning.specs.Bounds.{work_of, line_asks, asks_of_report, asks_of_rules, asks_of_audit, nodes_of_functions, pairs_at, Pair, annotation_width, query_width, paths_in, distinct_paths, model_size, most_variables}
 use Rattle.meaning_rows.proofs.TramDoors.{tram_bundle}
 use Rattle.meaning_rows.proofs.Samples.{pairs_bundle, system_bundle, system_case, meaning_on_literals}
 
@@ -29,11 +29,11 @@ pairs_of b p = once_after same_pair [] (flat (pairs_at b p) (valid_worlds b))
 place_count : Bundle → ℕ
 place_count b = 1 + length (once_after bytes_eq [] (flat (places_at b) (valid_worlds b)))
 
--- places, work, work in rows, how often the line asks
+-- places, work, how often the line asks
 sizes_of : Document → List ℕ
 sizes_of d =
     let b = bundle_of d in
-    place_count b ∷ work_of b (place_count b) ∷ work_in_rows_of b (pairs_of b) (place_count b) ∷ line_asks (feature_names b.line) d ∷ []
+    place_count b ∷ work_of b (pairs_of b) (place_count b) ∷ line_asks (feature_names b.line) d ∷ []
 
 -- the widths and sizes that work is made of
 widths_of : Document → List ℕ
@@ -48,11 +48,11 @@ asks_of d (Broken f) = []
 asks_of d (Is k) =
     let b = bundle_of d in asks_of_report k ∷ asks_of_rules k ∷ asks_of_audit b.model k (line_asks (feature_names b.line) d) ∷ []
 
-sizes_of_pairs : option_map sizes_of (document_of Json pairs_bundle) ≡ Some (5 ∷ 342720 ∷ 69888 ∷ 256 ∷ [])
+sizes_of_pairs : option_map sizes_of (document_of Json pairs_bundle) ≡ Some (5 ∷ 69888 ∷ 256 ∷ [])
 unfolding meaning_on_literals valid_worlds once_after same_pair pairs_of place_count sizes_of widths_of asks_of places_at pairs_bundle
 sizes_of_pairs = refl
 
-sizes_of_system : option_map sizes_of (document_of Json system_bundle) ≡ Some (4 ∷ 41856 ∷ 21984 ∷ 256 ∷ [])
+sizes_of_system : option_map sizes_of (document_of Json system_bundle) ≡ Some (4 ∷ 21984 ∷ 256 ∷ [])
 unfolding meaning_on_literals valid_worlds once_after same_pair pairs_of place_count sizes_of widths_of asks_of places_at system_bundle
 sizes_of_system = refl
 
