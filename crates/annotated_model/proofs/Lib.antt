@@ -27,3 +27,4 @@ pub mod StateLaws
 pub mod TransitionLaws
 pub mod SystemLaws
 pub mod BehaviourFaults
+pub mod ViewedItems

@@ -4,7 +4,7 @@ use Rattle.meaning.specs.Expressions.{name_bound}
 use Rattle.meaning.specs.Replay.{replay_answer}
 use Rattle.annotated_model.specs.View.{state_view, system_view, transition_view}
 use Rattle.std.proofs.lemmas.List.{length-map}
-use Rattle.run_replay.proofs.Steps.{viewed, all_at, all_viewed, same_some}
+use Rattle.annotated_model.proofs.ViewedItems.{viewed, all_at, all_viewed, same_some}
 use Rattle.run_replay.proofs.replaying.replay.Goals as goal
 
 pub replay_in-requires-clause-start : goal.replay_in-requires-clause-start
