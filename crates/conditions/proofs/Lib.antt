@@ -8,3 +8,4 @@ pub mod Laws
 pub mod Leaving
 pub mod Tables
 pub mod TableRows
+pub mod KeptResults

@@ -1,5 +1,5 @@
 -- The fields of an applier.
-use Rattle.std.specs.Prelude.{◌≡◌, ℕ, ◌+◌, ◌<◌, List, length, slice_index_or}
+use Rattle.std.specs.Prelude.{◌≡◌, ℕ, ◌+◌, ◌<◌, ◌≤◌, List, length, slice_index_or, vec_capacity}
 use Rattle.node_pool.specs.Regions.{Region, IsRegion}
 use Rattle.conditions.specs.declared.applier.Applier.TheInside.{Inside}
 use Rattle.conditions.specs.declared.applier.Kept.{Kept}
@@ -18,8 +18,14 @@ abbrev pub AllTrue : Region → List Kept → Type 0
 AllTrue region kept =
     (k : ℕ) → k < length kept → let e = slice_index_or kept k no_kept in IsAnswer region e.question e.answer
 
+-- each result is one of the old ones
+abbrev pub EachFrom : List Kept → List Kept → Type 0
+EachFrom old new = (k : ℕ) → k < length new → (j : ℕ) × (j < length old) × (slice_index_or new k no_kept ≡ slice_index_or old j no_kept)
+
 -- what always holds of an applier's fields
 pub record IsSound (a : Inside) : Type 0 where
   pub region : IsRegion a.pool
   pub slots : length a.kept.items ≡ a.mask + 1
+  pub within : a.mask ≤ a.widest
+  pub room : a.widest + 1 ≤ vec_capacity a.kept
   pub all_true : AllTrue a.pool a.kept.items

@@ -1,14 +1,18 @@
 //! Questions answered by recursion, with a table of kept results.
 
-ghost use Rattle.std.specs.Prelude.{◌≡◌, ◌+◌, ◌<◌, ◌≤◌, [], length, MatchOption, IfSome, IfOk};
+ghost use Rattle.std.specs.Prelude.{◌≡◌, ◌+◌, ◌<◌, ◌≤◌, ◌++◌, [], length, replicate, vec_capacity, MatchOption, IfSome, IfOk};
 ghost use Rattle.node_pool.specs.Nodes.{triple, top_of, value};
 ghost use Rattle.node_pool.specs.Regions.{IsRegion, IsInner, IsNumberOf};
 ghost use Rattle.node_pool.specs.Functions.{world_of};
 ghost use Rattle.conditions.specs.Questions.{first_of, IsAsked, IsNumberSplit};
 ghost use Rattle.conditions.specs.Answers.{IsAnswer, Answers, IsHalved, Joins};
+ghost use Rattle.conditions.specs.Applier.{no_kept, EachFrom};
 
 use crate::question::{FALSE, Question, TRUE, split};
-use node_pool::{Full, MAX_NODES, MAX_VARS, NoMemory, NodeNo, Pool};
+use node_pool::{
+    Full, MAX_NODES, MAX_VARS, NoMemory, NodeNo, Pool, append, empty_with_room, first_mask,
+    next_mask,
+};
 use std::alloc::Global;
 use std::marker::Model;
 
@@ -19,12 +23,13 @@ struct Kept {
     answer: NodeNo,
 }
 
-/// A pool of nodes with a table of kept results, which has a slot or two for each node of the limit. A kept result may be overwritten by
-/// another one of the same slot.
+/// A pool of nodes with a table of kept results. It has `mask + 1` slots, and eight times as many whenever there are fewer than four for
+/// each node, up to a slot or two for each node of the limit. A kept result may be overwritten by another one of the same slot.
 #[derive(Drop)]
 pub struct Applier {
     pool: Pool,
     mask: u32,
+    widest: u32,
     kept: Vec<Kept>,
 }
 
@@ -55,6 +60,41 @@ fn kept_slot(mask: u32, question: Question) -> usize
     ((mixed >> 13) & mask as u64) as usize
 }
 
+/// The result that an unused slot has, which is true of any pool.
+fn blank() -> Kept
+    ensures { result ≡ no_kept }
+{
+    Kept {
+        question: Question::Number(FALSE),
+        answer: FALSE,
+    }
+}
+
+/// Appends so many unused slots within the capacity.
+fn add_blanks(kept: &mut Vec<Kept>, count: usize)
+    requires room { length kept.old.items + count ≤ vec_capacity kept.old }
+    ensures items { kept.new.items ≡ kept.old.items ++ replicate count no_kept }
+    ensures capacity { vec_capacity kept.old ≤ vec_capacity kept.new }
+{
+    for _ in 0..count {
+        append(kept, blank());
+    }
+}
+
+/// Copies each of the first results to its slot among `mask + 1`.
+fn spread(kept: &mut Vec<Kept>, count: usize, mask: u32)
+    requires slots { length kept.old.items ≡ mask + 1 }
+    requires count { count ≤ length kept.old.items }
+    ensures slots { length kept.new.items ≡ length kept.old.items }
+    ensures from { EachFrom kept.old.items kept.new.items }
+    ensures capacity { vec_capacity kept.new ≡ vec_capacity kept.old }
+{
+    for slot in 0..count {
+        let result = kept[slot];
+        kept[kept_slot(mask, result.question)] = result;
+    }
+}
+
 impl Applier {
     /// No nodes yet. All memory is taken here.
     pub fn new(alloc: Global, limit: u32, vars: u16) -> Result<Applier, NoMemory>
@@ -65,13 +105,16 @@ impl Applier {
     {
         let pool = Pool::new(alloc, limit, vars)?;
         let _used = pool.used();
-        let mask = u32::MAX >> limit.leading_zeros();
-        let blank = Kept {
-            question: Question::Number(FALSE),
-            answer: FALSE,
-        };
-        let kept = vec![in alloc; blank; mask as usize + 1].map_err(|_| NoMemory)?;
-        Ok(Applier { pool, mask, kept })
+        let widest = u32::MAX >> limit.leading_zeros();
+        let mask = first_mask(widest);
+        let mut kept = empty_with_room(alloc, widest as usize + 1)?;
+        add_blanks(&mut kept, mask as usize + 1);
+        Ok(Applier {
+            pool,
+            mask,
+            widest,
+            kept,
+        })
     }
 
     /// How many nodes there are.
@@ -140,12 +183,35 @@ impl Applier {
         }
     }
 
-    fn keep(&mut self, question: Question, answer: NodeNo)
+    /// More slots, with the kept results in theirs.
+    fn widen(&mut self)
+        ensures { self.new ≡ self.old }
+    {
+        let slots = self.kept.len();
+        let wider = next_mask(self.mask, self.widest);
+        add_blanks(&mut self.kept, (wider - self.mask) as usize);
+        spread(&mut self.kept, slots, wider);
+        self.mask = wider;
+    }
+
+    /// Writes a result into its slot.
+    fn set(&mut self, question: Question, answer: NodeNo)
         requires { IsAnswer self.old question answer }
         ensures { self.new ≡ self.old }
     {
         let slot = kept_slot(self.mask, question);
         self.kept[slot] = Kept { question, answer };
+    }
+
+    /// Keeps a result, in more slots where there are fewer than four for each node.
+    fn keep(&mut self, question: Question, answer: NodeNo)
+        requires { IsAnswer self.old question answer }
+        ensures { self.new ≡ self.old }
+    {
+        if self.mask < self.widest && self.pool.used() > self.mask / 4 {
+            self.widen();
+        }
+        self.set(question, answer);
     }
 
     /// The answer where no node has to be made. Else the first variable is one of the pool's.

@@ -1,12 +1,26 @@
 -- A new node in the unique table.
-use Rattle.std.proofs.Common.{◌≡◌, ◌≢◌, ℕ, ◌+◌, ◌-◌, ◌<◌, ◌≤◌, ◌⊎◌, List, [], ◌∷◌, ◌++◌, length, slice_index, slice_set, arith, sym, ap, ◌∙◌, ⊎_elim, length-append, get_or-set_same, get_or-set_other}
+use Rattle.std.proofs.Common.{◌≡◌, ◌≢◌, ℕ, ◌+◌, ◌-◌, ◌<◌, ◌≤◌, ◌⊎◌, List, [], ◌∷◌, ◌++◌, length, slice_index, slice_set, arith, sym, ap, ◌∙◌, ⊎_elim, length-append, get_or-set_same, get_or-set_other, replicate}
 use Rattle.std.proofs.Math.ListN.{get_or-append}
+use Rattle.std.proofs.lemmas.List.{get_or-replicate}
 use Rattle.std.proofs.Math.Seq.{get_or-append_seam}
 use Rattle.std.proofs.lemmas.Bool.{cases_lt, cases_eq}
 use Rattle.node_pool.specs.declared.node.Node.{Node}
 use Rattle.node_pool.specs.Nodes.{node_at, Extends}
 use Rattle.node_pool.specs.Chains.{slot_of, HasChains}
 use Rattle.node_pool.proofs.Reduced.{Extends-push, node_at-pushed}
+
+-- no nodes in empty slots
+pub HasChains-empty : (mask : ℕ) → HasChains mask [] (replicate (mask + 1) 0) []
+HasChains-empty mask =
+    let zero_at : (s : ℕ) → s ≤ mask → slice_index (replicate (mask + 1) 0) s ≡ 0 = λ s s_in. get_or-replicate (mask + 1) s 0 0 (omega arith) in
+    record {
+      head_in = λ s s_in. omega (arith, zero_at s s_in);
+      head_slot = λ s s_in some. absurd (omega (arith, zero_at s s_in));
+      head_last = λ k k_in. absurd (omega arith);
+      next_in = λ k k_in. absurd (omega arith);
+      next_slot = λ k k_in some. absurd (omega arith);
+      next_last = λ j k less k_in same. absurd (omega arith);
+    }
 
 -- a new node goes to the head of its slot's chain
 pub HasChains-push : (mask : ℕ) (nodes : List Node) (heads next : List ℕ) (node : Node) → HasChains mask nodes heads next → length heads ≡ mask + 1 → length next ≡ length nodes → slot_of mask node ≤ mask → HasChains mask (nodes ++ node ∷ []) (slice_set heads (slot_of mask node) (length nodes + 1)) (next ++ slice_index heads (slot_of mask node) ∷ [])

@@ -17,5 +17,7 @@ pub record IsSound (p : Inside) : Type 0 where
   pub next_room : p.limit ≤ vec_capacity p.next
   pub same_length : length p.next.items ≡ length p.nodes.items
   pub all_slots : length p.heads.items ≡ p.mask + 1
+  pub slots_within : p.mask ≤ p.widest
+  pub slots_room : p.widest + 1 ≤ vec_capacity p.heads
   pub reduced : IsReduced p.vars p.nodes.items
   pub chains : HasChains p.mask p.nodes.items p.heads.items p.next.items

@@ -5,6 +5,34 @@ ghost use Rattle.node_pool.specs.Chains.{slot_of};
 
 use crate::node::Node;
 
+/// The most slots that a new table has, less one.
+const FIRST_MASK: u32 = 1023;
+
+/// How many slots a new table has, less one, if it has room for `widest + 1`.
+pub fn first_mask(widest: u32) -> u32
+    ensures { result ≤ widest }
+{
+    if widest < FIRST_MASK {
+        widest
+    } else {
+        FIRST_MASK
+    }
+}
+
+/// How many slots a table of `mask + 1` slots has next, less one: eight times as many, or as many as there is room for.
+pub fn next_mask(mask: u32, widest: u32) -> u32
+    requires within { mask ≤ widest }
+    ensures more { mask ≤ result }
+    ensures within { result ≤ widest }
+{
+    let wider = mask as u64 * 8 + 7;
+    if wider < widest as u64 {
+        wider as u32
+    } else {
+        widest
+    }
+}
+
 /// The triple's slot in a table of `mask + 1` slots: three odd factors mix the parts, and the middle bits are taken.
 #[tactic(auto, unfolding(crate::specs::Chains::slot_of))]
 pub fn slot(mask: u32, node: Node) -> usize

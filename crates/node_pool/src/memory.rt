@@ -15,12 +15,6 @@ pub fn empty_with_room<T: Drop>(alloc: Global, room: usize) -> Result<Vec<T>, No
     Vec::with_capacity(alloc, room).map_err(|_| NoMemory)
 }
 
-pub fn zeros(alloc: Global, len: usize) -> Result<Vec<u32>, NoMemory>
-    ensures { IfOk result (λ v. v.items ≡ replicate len 0) }
-{
-    vec![in alloc; 0; len].map_err(|_| NoMemory)
-}
-
 /// Appends within the capacity, so that no memory is taken.
 pub fn append<T: Drop>(items: &mut Vec<T>, item: T)
     requires { vec_len items.old < vec_capacity items.old }
@@ -30,5 +24,17 @@ pub fn append<T: Drop>(items: &mut Vec<T>, item: T)
     match items.push(item) {
         Ok(()) => {}
         Err(_) => unreachable!(),
+    }
+}
+
+/// Appends so many zeros within the capacity.
+pub fn fill_with_zeros(items: &mut Vec<u32>, count: usize)
+    requires empty { items.old.items ≡ [] }
+    requires room { count ≤ vec_capacity items.old }
+    ensures items { items.new.items ≡ replicate count 0 }
+    ensures capacity { vec_capacity items.old ≤ vec_capacity items.new }
+{
+    for _ in 0..count {
+        append(items, 0);
     }
 }

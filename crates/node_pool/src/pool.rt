@@ -7,8 +7,9 @@ ghost use Rattle.node_pool.specs.Regions.{IsRegion, IsInner, IsNumberOf, IsNew, 
 ghost use Rattle.node_pool.specs.Functions.{pool_of, function_of, branch, AgreeAtAll};
 ghost use Rattle.node_pool.specs.Made.{Makes, Grows};
 
-use crate::hash::slot;
-use crate::memory::{NoMemory, append, empty_with_room, zeros};
+use crate::chaining::chain_all;
+use crate::hash::{first_mask, next_mask, slot};
+use crate::memory::{NoMemory, append, empty_with_room, fill_with_zeros};
 use crate::node::{Node, NodeNo};
 use std::alloc::Global;
 use std::marker::Model;
@@ -27,12 +28,14 @@ pub struct Full;
 ///
 /// `heads` and `next` are the unique table. Each slot has a chain of the nodes whose triples fall there, the latest
 /// first: `heads` has its first link and `next` the link after each node. A link is a node's place plus 1, and 0 ends
-/// the chain.
+/// the chain. There are `mask + 1` slots, and eight times as many whenever there are more nodes than slots, within the room for
+/// `widest + 1`.
 #[derive(Drop)]
 pub struct Pool {
     limit: u32,
     vars: u16,
     mask: u32,
+    widest: u32,
     nodes: Vec<Node>,
     next: Vec<u32>,
     heads: Vec<u32>,
@@ -58,14 +61,17 @@ impl Pool {
         requires few_vars { vars ≤ MAX_VARS }
         ensures { IfOk result (λ p. p ≡ record { limit = limit; vars = vars; nodes = [] }) }
     {
-        let mask = u32::MAX >> limit.leading_zeros();
+        let widest = u32::MAX >> limit.leading_zeros();
+        let mask = first_mask(widest);
         let nodes = empty_with_room(alloc, limit as usize)?;
         let next = empty_with_room(alloc, limit as usize)?;
-        let heads = zeros(alloc, mask as usize + 1)?;
+        let mut heads = empty_with_room(alloc, widest as usize + 1)?;
+        fill_with_zeros(&mut heads, mask as usize + 1);
         Ok(Pool {
             limit,
             vars,
             mask,
+            widest,
             nodes,
             next,
             heads,
@@ -133,8 +139,20 @@ impl Pool {
         None
     }
 
+    /// Chains all nodes anew in more slots.
+    fn widen(&mut self)
+        ensures same { self.new ≡ self.old }
+    {
+        let wider = next_mask(self.mask, self.widest);
+        self.heads.clear();
+        fill_with_zeros(&mut self.heads, wider as usize + 1);
+        self.next.clear();
+        chain_all(&self.nodes, wider, &mut self.heads, &mut self.next);
+        self.mask = wider;
+    }
+
     /// Puts a new node at the head of its slot's chain.
-    fn insert(&mut self, node: Node)
+    fn link(&mut self, node: Node)
         requires room { length self.old.nodes < self.old.limit }
         requires stands { MayStand self.old.vars self.old.nodes node (length self.old.nodes) }
         requires absent { IsAbsent self.old.nodes node }
@@ -145,6 +163,19 @@ impl Pool {
         append(&mut self.next, head);
         append(&mut self.nodes, node);
         self.heads[slot] = self.nodes.len() as u32;
+    }
+
+    /// Puts a new node at the head of its slot's chain, in more slots where there are more nodes than slots.
+    fn insert(&mut self, node: Node)
+        requires room { length self.old.nodes < self.old.limit }
+        requires stands { MayStand self.old.vars self.old.nodes node (length self.old.nodes) }
+        requires absent { IsAbsent self.old.nodes node }
+        ensures { self.new ≡ record self.old { nodes = self.old.nodes ++ node ∷ [] } }
+    {
+        if self.mask < self.widest && self.nodes.len() > self.mask as usize {
+            self.widen();
+        }
+        self.link(node);
     }
 
     /// The number of the node with this variable and these children, which is the child itself where both are one.

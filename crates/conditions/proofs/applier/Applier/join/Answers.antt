@@ -33,6 +33,8 @@ invariant_of-self-2 c =
     record {
       region = c.make.ensures.region;
       slots = c.self.invariant.slots;
+      within = c.self.invariant.within;
+      room = c.self.invariant.room;
       all_true = λ k k_in. IsAnswer-later c.self.inside.pool c.make.new.self _ _ c.self.invariant.region.reduced c.make.ensures.grows (c.self.invariant.all_true k k_in);
     }
 

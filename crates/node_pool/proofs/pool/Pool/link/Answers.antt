@@ -6,7 +6,7 @@ use Rattle.node_pool.specs.Nodes.{MayStand, IsAbsent}
 use Rattle.node_pool.specs.Chains.{slot_of}
 use Rattle.node_pool.proofs.Reduced.{IsReduced-push}
 use Rattle.node_pool.proofs.ChainLemmas.{HasChains-push}
-use Rattle.node_pool.proofs.pool.Pool.insert.Goals as goal
+use Rattle.node_pool.proofs.pool.Pool.link.Goals as goal
 
 pub invariant_of-self : goal.invariant_of-self
 invariant_of-self c =
@@ -36,6 +36,8 @@ invariant_of-self c =
       next_room = omega (arith, sound.next_room, c.append.ensures.capacity);
       same_length = omega (arith, ap length nodes_new, ap length next_new, length-append s.nodes.items (node ∷ []), length-append s.next.items (slice_index s.heads.items (slot_of s.mask node) ∷ []), sound.same_length);
       all_slots = length-set s.heads.items c.slot-slot.result c.len.result ∙ sound.all_slots;
+      slots_within = sound.slots_within;
+      slots_room = sound.slots_room;
       reduced = rw nodes_new (IsReduced-push s.vars s.nodes.items node sound.reduced stands absent);
       chains = rw (nodes_new, next_new, heads_new) chains;
     }
