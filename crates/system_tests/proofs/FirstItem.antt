@@ -1,5 +1,5 @@
 -- A list that isn't empty has a first item.
-use Rattle.std.proofs.Common.{◌≡◌, ◌<◌, refl, List, [], ◌∷◌, length, Option, Some, arith}
+use Rattle.std.proofs.Common.{◌≡◌, ◌<◌, refl, List, [], ◌∷◌, length, Some, arith}
 use Rattle.std.specs.List.{slice_get}
 
 pub record IsFirst {A : Type 0} (xs : List A) : Type 0 where

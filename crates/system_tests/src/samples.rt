@@ -29,6 +29,25 @@ pub const WAYS: &str =
         {"from":"start","to":"lost","action":"f","when":"A & !A"},
         {"from":"lost","to":"lost","action":"g"}]}]}}"#;
 
+/// Two ways to `bad` of the same length, the first transition into it from the state that the second transition reaches.
+pub const FORK: &str =
+    r#"{"model":{"types":[{"name":"N","system":true}],"labels":["bad","start"],"elements":[{"name":"c","type":"N"}],"systems":[{"element":"c",
+    "states":[{"name":"s0","initial":true,"labels":["start"]},{"name":"a"},{"name":"b"},{"name":"bad","labels":["bad"]}],
+    "transitions":[{"from":"s0","to":"b","action":"x"},{"from":"s0","to":"a","action":"y"},{"from":"a","to":"bad","action":"z"},{"from":"b","to":"bad","action":"w"}]}]}}"#;
+
+/// One state, which is left where A or B is.
+pub const HALT: &str =
+    r#"{"model":{"types":[{"name":"N","system":true}],"elements":[{"name":"c","type":"N"}],"systems":[{"element":"c",
+    "states":[{"name":"s0","initial":true}],
+    "transitions":[{"from":"s0","to":"s0","action":"p","when":"A"},{"from":"s0","to":"s0","action":"q","when":"B"}]}]}}"#;
+
+/// Two states `bad` at the distance 2 where B is, the greater number first in the list, and one at the distance 1 where A is.
+pub const NEAR: &str =
+    r#"{"model":{"types":[{"name":"N","system":true}],"labels":["bad"],"elements":[{"name":"c","type":"N"}],"systems":[{"element":"c",
+    "states":[{"name":"s0","initial":true},{"name":"s1"},{"name":"b2","labels":["bad"]},{"name":"b3","labels":["bad"]},{"name":"b4","labels":["bad"]}],
+    "transitions":[{"from":"s0","to":"s1","action":"go"},{"from":"s1","to":"b3","action":"go","when":"B"},{"from":"s1","to":"b2","action":"go","when":"B"},
+        {"from":"s0","to":"b4","action":"go","when":"A"}]}]}}"#;
+
 /// No transition at all.
 pub const STILL: &str =
     r#"{"model":{"types":[{"name":"N","system":true}],"elements":[{"name":"c","type":"N","when":"A"}],"systems":[{"element":"c",

@@ -1,0 +1,14 @@
+pub mod PlainChecks
+pub mod FirstViolations
+pub mod RunsBack
+pub mod RunsThere
+pub mod LeftStates
+pub mod ViolatingRows
+pub mod FirstMet
+pub mod NearestRows
+pub mod ListedTargets
+pub mod LayerPlaces
+pub mod LayerCount
+pub mod FoundStates
+pub mod FoundTargets
+pub mod FindingLaws

@@ -1,0 +1,5 @@
+pub mod View
+pub mod Findings
+pub mod Searching
+pub mod Running
+pub mod Targets
